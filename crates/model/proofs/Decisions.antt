@@ -1,0 +1,52 @@
+-- What a test's outcome says, and a choice by a test.
+use mathlib.Core.Path.{_≡_, refl, sym}
+use mathlib.Core.Logic.{_⊎_, inl, inr}
+use mathlib.Core.Bool.{Bool, true, false, not, cond, _&&_, _||_}
+use Prim.Native.Nat.{ℕ, suc}
+use native.Mathlib.Omega.{arith}
+use lib.Dec.{T}
+
+pub split {ℓ} : {P : Type ℓ} (t : Bool) → (t ≡ true → P) → (t ≡ false → P) → P
+split true f g = f refl
+split false f g = g refl
+
+pub holds : {t : Bool} → t ≡ true → T t
+holds e = rw e tt
+
+-- ## _&&_ and _||_
+
+pub both-true : (a b : Bool) → (a && b) ≡ true → (a ≡ true) × (b ≡ true)
+both-true true b e = (refl, e)
+both-true false b e = (e, absurd (holds e))
+
+pub both-of : {a b : Bool} → a ≡ true → b ≡ true → (a && b) ≡ true
+both-of e f = rw (e, f)
+
+pub either-false : (a b : Bool) → (a || b) ≡ false → (a ≡ false) × (b ≡ false)
+either-false true b e = (e, absurd (holds (sym e)))
+either-false false b e = (refl, e)
+
+pub either-true : (a b : Bool) → (a || b) ≡ true → (a ≡ true) ⊎ (b ≡ true)
+either-true true b e = inl refl
+either-true false b e = inr e
+
+-- ## cond
+
+pub cond-true {ℓ} : {A : Type ℓ} {t : Bool} (a b : A) → t ≡ true → cond t a b ≡ a
+cond-true a b e = rw e
+
+pub cond-false {ℓ} : {A : Type ℓ} {t : Bool} (a b : A) → t ≡ false → cond t a b ≡ b
+cond-false a b e = rw e
+
+pub cond-ind {ℓ κ} : {A : Type ℓ} (P : A → Type κ) (t : Bool) (a b : A) → (t ≡ true → P a) → (t ≡ false → P b) → P (cond t a b)
+cond-ind P true a b f g = f refl
+cond-ind P false a b f g = g refl
+
+pub cond-rel {ℓ κ} : {A : Type ℓ} (R : A → A → Type κ) (t : Bool) (a b a′ b′ : A) → R a a′ → R b b′ → R (cond t a b) (cond t a′ b′)
+cond-rel R true a b a′ b′ f g = f
+cond-rel R false a b a′ b′ f g = g
+
+-- a number that a test gives, where there is none
+pub cond-none : (t : Bool) (n m : ℕ) → cond t (suc n) m ≡ 0 → (t ≡ false) × (m ≡ 0)
+cond-none true n m e = absurd (omega arith)
+cond-none false n m e = (refl, e)

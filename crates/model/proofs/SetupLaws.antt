@@ -1,0 +1,133 @@
+-- What set-up's checks say, where they refuse nothing.
+use mathlib.Core.Path.{_≡_, refl, sym, ap, _∙_, subst}
+use mathlib.Core.Logic.{_≢_, _⊎_, inl, inr}
+use mathlib.Core.Bool.{Bool, true, false, not, cond, _&&_, _||_}
+use mathlib.Core.List.{List}
+use Prim.Native.Nat.{ℕ, zero, suc, _+_, _-_, _*_, _%_, _≤_, _<_, min, max}
+use native.Mathlib.Omega.{arith}
+use native.Mathlib.Decide.{decLt, ℕ-discrete}
+use native.Mathlib.Nat.{not-suc-le-zero}
+use lib.Dec.{eqb, ltb}
+use Rattle.model.specs.declared.Geometry.{Geometry}
+use Rattle.model.specs.declared.Row.{Row}
+use Rattle.model.specs.Ranges.{anyBelow, outOf}
+use Rattle.model.specs.Bitmaps.{isDepth, rowWords, shareSpan}
+use Rattle.model.specs.Setup.{rowAt, geometryBad, screenBytes, rectangleBad, storeBad, sharePixel, shareByte, checks}
+use Rattle.model.proofs.PlaceLaws.{Depth}
+use borrow.Author.Tests.{ltb-true, ltb-false, lt-ltb, eqb-true, not-false}
+use Rattle.model.proofs.Decisions.{both-of, either-false, either-true, cond-none, holds}
+
+pub any-below : (n : ℕ) (f : ℕ → Bool) (k : ℕ) → anyBelow n f ≡ false → k < n → f k ≡ false
+unfolding anyBelow
+any-below zero f k e h = absurd (not-suc-le-zero h)
+any-below (suc n) f k e h = go (ℕ-discrete k n) (λ l. any-below n f k (either-false (f n) (anyBelow n f) e .1) l)
+  where
+    go : Dec (k ≡ n) → (k < n → f k ≡ false) → f k ≡ false
+    go (yes q) g = rw q (either-false (f n) (anyBelow n f) e .0)
+    go (no q) g = g (omega arith)
+
+any-pair : (n : ℕ) (f : ℕ → ℕ → Bool) (i j : ℕ) → anyBelow n (λ j. anyBelow j (λ i. f i j)) ≡ false → i < j → j < n → f i j ≡ false
+any-pair n f i j e l h = any-below j (λ i. f i j) i (any-below n (λ j. anyBelow j (λ i. f i j)) j e h) l
+
+depth-of : (b : ℕ) → not (isDepth b) ≡ false → Depth b
+depth-of b e = go1 (either-true _ _ (not-false _ e))
+  where
+    one : (n m : ℕ) → n * m ≡ 8 → eqb b n ≡ true → Depth b
+    one n m h q = record { e = m; fills = subst (λ (z : ℕ). z * m ≡ 8) (sym (eqb-true b n q)) h }
+
+    go3 : (eqb b 4 ≡ true) ⊎ (eqb b 8 ≡ true) → Depth b
+    go3 (inl q) = one 4 2 refl q
+    go3 (inr q) = one 8 1 refl q
+
+    go2 : (eqb b 2 ≡ true) ⊎ ((eqb b 4 || eqb b 8) ≡ true) → Depth b
+    go2 (inl q) = one 2 4 refl q
+    go2 (inr q) = go3 (either-true _ _ q)
+
+    go1 : (eqb b 1 ≡ true) ⊎ ((eqb b 2 || (eqb b 4 || eqb b 8)) ≡ true) → Depth b
+    go1 (inl q) = one 1 8 refl q
+    go1 (inr q) = go2 (either-true _ _ q)
+
+-- no point of the screen is in both rectangles
+unfoldable pub NoPixel : Row → Row → Type 0
+NoPixel a b = (x y : ℕ) → a .left ≤ x → x < a .left + a .width → b .left ≤ x → x < b .left + b .width
+    → a .top ≤ y → y < a .top + a .height → b .top ≤ y → y < b .top + b .height → ⊥
+
+-- no place of the stores is in both stores
+unfoldable pub NoByte : Row → Row → Type 0
+NoByte a b = (i : ℕ) → a .start ≤ i → i < a .start + a .len → b .start ≤ i → i < b .start + b .len → ⊥
+
+share-of : (a m b n x : ℕ) → a ≤ x → x < a + m → b ≤ x → x < b + n → shareSpan a m b n ≡ true
+share-of a m b n x h1 h2 h3 h4 =
+    both-of (lt-ltb 0 m (omega arith)) (both-of (lt-ltb 0 n (omega arith)) (both-of (lt-ltb a (b + n) (omega arith)) (lt-ltb b (a + m) (omega arith))))
+
+no-pixel : (a b : Row) → sharePixel a b ≡ false → NoPixel a b
+unfolding sharePixel NoPixel
+no-pixel a b e x y h1 h2 h3 h4 h5 h6 h7 h8 =
+    holds (sym e ∙ both-of (share-of (a .left) (a .width) (b .left) (b .width) x h1 h2 h3 h4) (share-of (a .top) (a .height) (b .top) (b .height) y h5 h6 h7 h8))
+
+no-byte : (a b : Row) → shareByte a b ≡ false → NoByte a b
+unfolding shareByte NoByte
+no-byte a b e i h1 h2 h3 h4 = holds (sym e ∙ share-of (a .start) (a .len) (b .start) (b .len) i h1 h2 h3 h4)
+
+pub record Valid (g : Geometry) (n : ℕ) (rows : List Row) (screen stores : ℕ) : Type 0 where
+  pub depth : Depth (g .depth)
+  pub count : n ≤ 8
+  pub long : screenBytes g ≤ screen
+  pub right : (k : ℕ) → k < n → rowAt rows k .left + rowAt rows k .width ≤ g .width
+  pub bottom : (k : ℕ) → k < n → rowAt rows k .top + rowAt rows k .height ≤ g .height
+  pub store : (k : ℕ) → k < n → rowAt rows k .start + rowAt rows k .len ≤ stores
+  pub no-pixels : (i j : ℕ) → i < n → j < n → i ≢ j → NoPixel (rowAt rows i) (rowAt rows j)
+  pub no-bytes : (i j : ℕ) → i < n → j < n → i ≢ j → NoByte (rowAt rows i) (rowAt rows j)
+
+ordered : (n : ℕ) (rows : List Row) (P : Row → Row → Type 0) → ((a b : Row) → P a b → P b a) → ((i j : ℕ) → i < j → j < n → P (rowAt rows i) (rowAt rows j))
+    → (i j : ℕ) → i < n → j < n → i ≢ j → P (rowAt rows i) (rowAt rows j)
+ordered m rows P s f i j h k n = go (decLt i j)
+  where
+    go : Dec (i < j) → P (rowAt rows i) (rowAt rows j)
+    go (yes l) = f i j l k
+    go (no l) = s _ _ (f j i (omega arith) h)
+
+geometry-say : (g : Geometry) (n : ℕ) → geometryBad g n ≡ false → Depth (g .depth) × (n ≤ 8)
+unfolding geometryBad
+geometry-say g n e =
+    let a = either-false (outOf 1 4096 (g .width)) (outOf 1 4096 (g .height) || (not (isDepth (g .depth)) || outOf 1 8 n)) e in
+    let b = either-false (outOf 1 4096 (g .height)) (not (isDepth (g .depth)) || outOf 1 8 n) (a .1) in
+    let c = either-false (not (isDepth (g .depth))) (outOf 1 8 n) (b .1) in
+    (depth-of (g .depth) (c .0), ltb-false 8 n (either-false (ltb n 1) (ltb 8 n) (c .1) .1))
+
+rectangle-say : (g : Geometry) (r : Row) → rectangleBad g r ≡ false → (r .left + r .width ≤ g .width) × (r .top + r .height ≤ g .height)
+unfolding rectangleBad
+rectangle-say g r e =
+    let x = ltb (g .width) (r .left + r .width) in
+    let y = ltb (g .height) (r .top + r .height) in
+    let a = either-false (eqb (r .width) 0) (eqb (r .height) 0 || (x || y)) e in
+    let b = either-false (eqb (r .height) 0) (x || y) (a .1) in
+    let c = either-false x y (b .1) in
+    (ltb-false (g .width) (r .left + r .width) (c .0), ltb-false (g .height) (r .top + r .height) (c .1))
+
+store-say : (n : ℕ) (r : Row) → storeBad n r ≡ false → r .start + r .len ≤ n
+unfolding storeBad
+store-say n r e =
+    let a = either-false (eqb (r .len % 2) 1) (ltb 2097152 (r .len) || ltb n (r .start + r .len)) e in
+    ltb-false n (r .start + r .len) (either-false (ltb 2097152 (r .len)) (ltb n (r .start + r .len)) (a .1) .1)
+
+pub checks-say : (g : Geometry) (n : ℕ) (rows : List Row) (screen stores : ℕ) → checks g n rows screen stores ≡ 0 → Valid g n rows screen stores
+unfolding checks NoPixel NoByte
+checks-say g n rows screen stores e =
+    let p6 = cond-none (geometryBad g n) 5 _ e in
+    let p7 = cond-none (ltb screen (screenBytes g)) 6 _ (p6 .1) in
+    let p8 = cond-none (anyBelow n (λ k. rectangleBad g (rowAt rows k))) 7 _ (p7 .1) in
+    let p9 = cond-none (anyBelow n (λ k. storeBad stores (rowAt rows k))) 8 _ (p8 .1) in
+    let p10 = cond-none (anyBelow n (λ j. anyBelow j (λ i. sharePixel (rowAt rows i) (rowAt rows j)))) 9 _ (p9 .1) in
+    let p11 = cond-none (anyBelow n (λ j. anyBelow j (λ i. shareByte (rowAt rows i) (rowAt rows j)))) 10 0 (p10 .1) in
+    let q = geometry-say g n (p6 .0) in
+    record {
+      depth = q .0;
+      count = q .1;
+      long = ltb-false screen (screenBytes g) (p7 .0);
+      right = λ k h. rectangle-say g (rowAt rows k) (any-below n (λ k. rectangleBad g (rowAt rows k)) k (p8 .0) h) .0;
+      bottom = λ k h. rectangle-say g (rowAt rows k) (any-below n (λ k. rectangleBad g (rowAt rows k)) k (p8 .0) h) .1;
+      store = λ k h. store-say stores (rowAt rows k) (any-below n (λ k. storeBad stores (rowAt rows k)) k (p9 .0) h);
+      no-pixels = ordered n rows NoPixel (λ a b f x y h1 h2 h3 h4 h5 h6 h7 h8. f x y h3 h4 h1 h2 h7 h8 h5 h6) (λ i j l h. no-pixel _ _ (any-pair n (λ i j. sharePixel (rowAt rows i) (rowAt rows j)) i j (p10 .0) l h));
+      no-bytes = ordered n rows NoByte (λ a b f x h1 h2 h3 h4. f x h3 h4 h1 h2) (λ i j l h. no-byte _ _ (any-pair n (λ i j. shareByte (rowAt rows i) (rowAt rows j)) i j (p11 .0) l h));
+    }

@@ -1,0 +1,189 @@
+-- The calls (01, "Calls and their refusals, in order"): one definition, exec, that every call's contract cites.
+use Prim.Native.Nat.{ℕ, _+_, _%_}
+use mathlib.Core.List.{List, [], _∷_, _++_}
+use mathlib.Core.Bool.{cond, _&&_}
+use lib.Dec.{ltb, leb, eqb}
+use lib.IntN.{ℤ, pos}
+use lib.ListN.{getD, set, length, take, drop, replicate}
+use Rattle.model.specs.Ranges.{orElse}
+use Rattle.model.specs.Numbers.{statusRunning, refusePane, refuseEnd, refuseOdd, refuseStatus, refusePixel, refuseRecord}
+use Rattle.model.specs.Words.{digit}
+use Rattle.model.specs.Coordinates.{coord}
+use Rattle.model.specs.Bitmaps.{Geometry, Row, paneSurface, pixels}
+use Rattle.model.specs.Record.{Pane, fresh, noReturns, withProgress, withReturns}
+use Rattle.model.specs.Runs.{Finish, runs}
+use Rattle.model.specs.Setup.{rowAt, paneAt, checks, paneBad}
+pub use Rattle.model.specs.declared.Console.{Console}
+pub use Rattle.model.specs.declared.Reply.{Reply}
+use Rattle.model.specs.declared.Reply.the-variants as reply
+
+-- the console record and the two buffers, as lent to a call and as left by it
+pub record State : Type 0 where
+  pub console : Console
+  pub screen : List ℕ
+  pub stores : List ℕ
+
+-- the calls on a pane, with their values: put (address, bytes), start (address), run (budget), look, pixel (x,y), peek (address), clear
+pub data Call : Type 0 where
+  put : ℕ → List ℕ → Call
+  start : ℕ → Call
+  run : ℕ → Call
+  look : Call
+  pixel : ℕ → ℕ → Call
+  peek : ℕ → Call
+  clear : Call
+
+-- "A call on a pane names its number"
+pub record Request : Type 0 where
+  pub number : ℕ
+  pub call : Call
+
+abbrev pub on : ℕ → Call → Request
+on n c = record { number = n; call = c }
+
+-- ## A part of a list, and the list with that part replaced
+
+unfoldable pub part : List ℕ → ℕ → ℕ → List ℕ
+part l at n = take n (drop at l)
+
+-- in the form that a slice has after its middle part was lent
+unfoldable pub inPart : List ℕ → ℕ → ℕ → List ℕ → List ℕ
+inPart l at n new = take at l ++ (new ++ drop n (drop at l))
+
+-- ## A call's own refusal; 0 for none
+
+unfoldable pub ownRefusal : Row → Pane → Call → ℕ
+-- "Put (address, bytes): 2 if they pass the store's end; nothing at the very end is accepted"
+ownRefusal r p (put a bytes) = cond (ltb (r .len) (a + length bytes)) refuseEnd 0
+-- "Start (address): 3 odd, 2 not below the length"
+ownRefusal r p (start a) = cond (eqb (a % 2) 1) refuseOdd (cond (leb (r .len) a) refuseEnd 0)
+-- "Run (budget, 32 bits): 4 status isn't 1"
+ownRefusal r p (run budget) = cond (eqb (p .progress .status) statusRunning) 0 refuseStatus
+-- "Look: none of its own"
+ownRefusal r p look = 0
+-- "Pixel (x,y from the pane's corner): 5 outside the pane"
+ownRefusal r p (pixel x y) = cond (ltb x (r .width) && ltb y (r .height)) 0 refusePixel
+-- "Peek (address): 2 not below the length"
+ownRefusal r p (peek a) = cond (leb (r .len) a) refuseEnd 0
+-- "Clear: none"
+ownRefusal r p clear = 0
+
+-- ## An accepted call on one pane: its record, the screen, and its own part of the stores
+
+pub record Outcome : Type 0 where
+  pub reply : Reply
+  pub pane : Pane
+  pub screen : List ℕ
+  pub store : List ℕ
+
+abbrev pub outcome : Reply → Pane → List ℕ → List ℕ → Outcome
+outcome a p screen store = record { reply = a; pane = p; screen = screen; store = store }
+
+-- "pointer at the address, status 1, fault 0, no return addresses, the rest kept"
+abbrev pub started : Pane → ℕ → Pane
+started p a = withReturns (withProgress p (record { status = statusRunning; fault = 0; pointer = a })) noReturns
+
+-- "commands done, status, fault"
+abbrev pub ran : Finish → Outcome
+ran f =
+    outcome (reply.Ran (record { commands = f .count; status = f .pane .progress .status; fault = f .pane .progress .fault })) (f .pane) (f .screen) (f .store)
+
+-- "status, fault, pointer, position, pick and trap flag"
+abbrev pub shown : Pane → Reply
+shown p = reply.Seen (record { progress = p .progress; position = p .position; pick = p .flags .pick; trap = p .flags .trap })
+
+unfoldable pub onPane : Geometry → Row → Pane → List ℕ → List ℕ → Call → Outcome
+-- "else they stand in the store from the address on, all else kept"
+onPane g r p screen store (put a bytes) = outcome reply.Done p screen (inPart store a (length bytes) bytes)
+onPane g r p screen store (start a) = outcome reply.Done (started p a) screen store
+onPane g r p screen store (run budget) = ran (runs g r budget p screen store)
+-- "Look, pixel and peek change nothing"
+onPane g r p screen store look = outcome (shown p) p screen store
+-- "else its value"
+onPane g r p screen store (pixel x y) = outcome (reply.Value (pixels (paneSurface g r) screen x y)) p screen store
+-- "else the byte"
+onPane g r p screen store (peek a) = outcome (reply.Value (getD store a 0)) p screen store
+-- "fresh pane record, store and pixels kept"
+onPane g r p screen store clear = outcome reply.Done fresh screen store
+
+-- ## The console
+
+-- the row, the record and the store of the pane with a number
+unfoldable pub rowOf : State → ℕ → Row
+rowOf s k = rowAt (s .console .rows) k
+
+unfoldable pub recordOf : State → ℕ → Pane
+recordOf s k = paneAt (s .console .panes) k
+
+-- "each call hands on only the named pane's part of it"
+unfoldable pub storeOf : State → ℕ → List ℕ
+storeOf s k = part (s .stores) (rowOf s k .start) (rowOf s k .len)
+
+unfoldable pub setupRefusal : State → ℕ
+setupRefusal s = checks (s .console .geometry) (s .console .count) (s .console .rows) (length (s .screen)) (length (s .stores))
+
+-- "Every call: set-up's checks again on the record lent; 1 no such pane; 12 ..": 0 for none
+unfoldable pub callRefusal : State → ℕ → ℕ
+callRefusal s k =
+    orElse (setupRefusal s)
+    (cond (leb (s .console .count) k) refusePane
+    (cond (paneBad (s .console .geometry) (rowOf s k) (recordOf s k)) refuseRecord 0))
+
+-- the first refusal that applies; 0 for none
+unfoldable pub refusal : State → Request → ℕ
+refusal s c = orElse (callRefusal s (c .number)) (ownRefusal (rowOf s (c .number)) (recordOf s (c .number)) (c .call))
+
+pub record Answer : Type 0 where
+  pub reply : Reply
+  pub state : State
+
+-- an outcome put in place of what the pane had
+unfoldable pub withPane : State → ℕ → Outcome → Answer
+withPane s k o =
+    record {
+      reply = o .reply;
+      state = record {
+        console = record { geometry = s .console .geometry; count = s .console .count; rows = s .console .rows; panes = set (s .console .panes) k (o .pane) };
+        screen = o .screen;
+        stores = inPart (s .stores) (rowOf s k .start) (rowOf s k .len) (o .store);
+      };
+    }
+
+-- an accepted call, with the pane's own part of everything handed on
+unfoldable pub accepted : State → Request → Answer
+accepted s c =
+    withPane s (c .number)
+    (onPane (s .console .geometry) (rowOf s (c .number)) (recordOf s (c .number)) (s .screen) (storeOf s (c .number)) (c .call))
+
+-- "record and buffers keep every bit"
+abbrev pub refused : State → ℕ → Answer
+refused s n = record { reply = reply.Refused n; state = s }
+
+-- "The first that applies is replied, alone"
+unfoldable pub exec : State → Request → Answer
+exec s c = cond (eqb (refusal s c) 0) (accepted s c) (refused s (refusal s c))
+
+-- "Set-up takes a record with geometry and table, ignoring its pane records; accepted, it makes all eight fresh and both buffers keep every bit"
+unfoldable pub setUp : State → Answer
+setUp s =
+    cond (eqb (setupRefusal s) 0)
+    (record {
+      reply = reply.Done;
+      state = record {
+        console = record { geometry = s .console .geometry; count = s .console .count; rows = s .console .rows; panes = replicate 8 fresh };
+        screen = s .screen;
+        stores = s .stores;
+      };
+    })
+    (refused s (setupRefusal s))
+
+-- ## The paper's number and values of a reply: "A reply is the refusal, or acceptance with its values"
+
+abbrev pub values : Reply → List ℤ
+values (reply.Refused n) = pos n ∷ []
+values reply.Done = pos 0 ∷ []
+values (reply.Ran r) = pos 0 ∷ pos (r .commands) ∷ pos (r .status) ∷ pos (r .fault) ∷ []
+values (reply.Seen v) =
+    pos 0 ∷ pos (v .progress .status) ∷ pos (v .progress .fault) ∷ pos (v .progress .pointer) ∷ coord (v .position .x) ∷ coord (v .position .y)
+    ∷ pos (digit (v .pick)) ∷ pos (digit (v .trap)) ∷ []
+values (reply.Value n) = pos 0 ∷ pos n ∷ []

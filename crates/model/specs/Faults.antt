@@ -1,0 +1,128 @@
+-- The faults of a command (01, "Faults, in the order written within a command"): what is checked before anything is done. No pixel is looked at.
+use Prim.Native.Nat.{ℕ, _+_, _*_, _%_}
+use mathlib.Core.List.{List}
+use mathlib.Core.Bool.{Bool, true, false, cond, not, _&&_, _||_}
+use lib.Dec.{ltb, leb, eqb}
+use lib.ListN.{getD}
+use Rattle.model.specs.Ranges.{anyBelow}
+use Rattle.model.specs.Numbers.{faultBitmap, faultNoBitmap, faultClip, faultData, faultCall, faultReturn, faultNoFont, faultCopy}
+use Rattle.model.specs.Words.{wordAt}
+use Rattle.model.specs.Coordinates.{coord}
+use Rattle.model.specs.Bitmaps.{Geometry, Row, Bitmap, Surface, surfaceOf, bitmapOf, ruleBroken, touches}
+use Rattle.model.specs.declared.Bitmap.the-variants as bitmap
+use Rattle.model.specs.Record.{Pane, Clip, Font}
+use Rattle.model.specs.declared.Font.the-variants as font
+use Rattle.model.specs.Copies.{Block, blockBad, sharing}
+use Rattle.model.specs.Glyphs.{offsetWord, descriptor, heightOf}
+use Rattle.model.specs.Commands.{Command}
+use Rattle.model.specs.declared.Command.the-variants as command
+
+-- ## The active bitmap
+
+abbrev pub noBitmap : Bitmap → Bool
+noBitmap bitmap.Absent = true
+noBitmap (bitmap.Pane xmax ymax b) = false
+noBitmap (bitmap.Store a xmax ymax b) = false
+
+-- some value of a clip is above these; a negative coordinate, read as its pattern, is above 7FFF hex and so above any xmax or ymax
+abbrev pub clipBeyond : ℕ → ℕ → Clip → Bool
+clipBeyond xmax ymax c = ltb xmax (c .xmin) || (ltb ymax (c .ymin) || (ltb xmax (c .xmax) || ltb ymax (c .ymax)))
+
+-- "a clip value outside the bitmap, or not 0 without one"
+unfoldable pub clipOutside : Bitmap → Clip → Bool
+clipOutside bitmap.Absent c = clipBeyond 0 0 c
+clipOutside (bitmap.Pane xmax ymax b) c = clipBeyond xmax ymax c
+clipOutside (bitmap.Store a xmax ymax b) c = clipBeyond xmax ymax c
+
+-- ## Data in the store
+
+-- bytes of the store, n from a on, that are outside it or touch the active bitmap; none are neither
+abbrev pub bytesBad : Row → Bitmap → ℕ → ℕ → Bool
+bytesBad r active a n = not (eqb n 0) && (ltb (r .len) (a + n) || touches active a n)
+
+-- "25 an array, string, offset word or descriptor at an odd address (byte strings may be odd), outside the store or touching the active
+-- bitmap (an empty array or word string is checked for oddness alone, an empty byte string for nothing)": n bytes from a on
+unfoldable pub arrayBad : Row → Bitmap → ℕ → ℕ → Bool
+arrayBad r active a n = eqb (a % 2) 1 || bytesBad r active a n
+
+abbrev pub noFont : Font → Bool
+noFont font.Absent = true
+noFont (font.Word base) = false
+noFont (font.Byte base) = false
+
+-- the string of n characters at a, and the offset words of byte mode
+unfoldable pub stringBad : Row → Bitmap → List ℕ → Font → ℕ → ℕ → Bool
+stringBad r active store font.Absent a n = false
+stringBad r active store (font.Word base) a n = arrayBad r active a (2 * n)
+stringBad r active store (font.Byte base) a n =
+    bytesBad r active a n || anyBelow n (λ k. arrayBad r active (offsetWord base (getD store (a + k) 0)) 2)
+
+-- the descriptors, each 1 + height words
+unfoldable pub descriptorsBad : Row → Bitmap → List ℕ → Font → ℕ → ℕ → Bool
+descriptorsBad r active store f a n =
+    anyBelow n (λ k. arrayBad r active (descriptor f store a k) (2 + 2 * heightOf (wordAt store (descriptor f store a k))))
+
+-- ## Copies
+
+-- a source rectangle by its words
+abbrev pub block : ℕ → ℕ → ℕ → ℕ → Block
+block x y dx dy = record { sx = coord x; sy = coord y; dx = coord dx; dy = coord dy }
+
+-- the bits per pixel of the active bitmap
+abbrev pub activeBits : Geometry → Row → Pane → ℕ
+activeBits g r p = surfaceOf g r (p .bitmap) .bits
+
+-- the bitmap that BIT_BLT_M names, "at the active depth"
+abbrev pub sourceBitmap : Geometry → Row → Pane → ℕ → ℕ → ℕ → Bitmap
+sourceBitmap g r p a xmax ymax = bitmapOf a xmax ymax (activeBits g r p)
+
+-- BIT_BLT_M's faults after 23, by its source bitmap and rectangle
+abbrev pub copyFault : Geometry → Row → Bitmap → Bitmap → Block → ℕ
+copyFault g r active source c =
+    cond (ruleBroken g r source) faultBitmap
+    (cond (blockBad (surfaceOf g r source) c || sharing active source (surfaceOf g r source) c) faultCopy 0)
+
+-- ## Each command's fault; 0 for none
+
+-- "Drawing commands: 23", and then the others
+abbrev pub drawFault : Pane → ℕ → ℕ
+drawFault p rest = cond (noBitmap (p .bitmap)) faultNoBitmap rest
+
+unfoldable pub faultOf : Geometry → Row → Pane → List ℕ → Command → ℕ
+faultOf g r p store (command.Link a) = 0
+faultOf g r p store command.Nop = 0
+faultOf g r p store (command.DefTexture pattern t) = 0
+-- "DEF_CHAR_SET: 25 odd base"
+faultOf g r p store (command.DefCharSet base t) = cond (eqb (base % 2) 1) faultData 0
+-- "CALL: 26 eight kept"
+faultOf g r p store (command.Call a) = cond (leb 8 (p .returns .count)) faultCall 0
+-- "RETURN: 27 none kept"
+faultOf g r p store command.Return = cond (eqb (p .returns .count) 0) faultReturn 0
+-- "DEF_BITMAP: 22 rule broken"
+faultOf g r p store (command.DefBitmap a xmax ymax b) = cond (ruleBroken g r (bitmapOf a xmax ymax b)) faultBitmap 0
+faultOf g r p store (command.DefColors fore back) = 0
+faultOf g r p store (command.DefLogicalOp mask code) = 0
+faultOf g r p store command.EnterPick = 0
+faultOf g r p store command.ExitPick = 0
+-- "DEF_CLIP_RECT: 23 no bitmap, 24 outside it": "the four values lie in the bitmap"
+faultOf g r p store (command.DefClipRect xmin ymin xmax ymax) =
+    cond (noBitmap (p .bitmap)) faultNoBitmap
+    (cond (clipOutside (p .bitmap) (record { xmin = xmin; ymin = ymin; xmax = xmax; ymax = ymax })) faultClip 0)
+faultOf g r p store (command.DefSpace spacing) = 0
+faultOf g r p store (command.DefCharOrient orientation) = 0
+faultOf g r p store (command.AbsMov x y) = 0
+faultOf g r p store (command.RelMov dx dy) = 0
+faultOf g r p store (command.Point dx dy) = drawFault p 0
+faultOf g r p store (command.Line dx dy) = drawFault p 0
+faultOf g r p store (command.Rect dx dy) = drawFault p 0
+faultOf g r p store (command.BitBlt x y dx dy) =
+    drawFault p (cond (blockBad (surfaceOf g r (p .bitmap)) (block x y dx dy)) faultCopy 0)
+-- pairs of words
+faultOf g r p store (command.Polyline a n) = drawFault p (cond (arrayBad r (p .bitmap) a (4 * n)) faultData 0)
+faultOf g r p store (command.Char a n t) =
+    drawFault p (cond (noFont (p .text .font)) faultNoFont
+    (cond (stringBad r (p .bitmap) store (p .text .font) a n || descriptorsBad r (p .bitmap) store (p .text .font) a n) faultData 0))
+faultOf g r p store (command.BitBltM a xmax ymax x y dx dy) =
+    drawFault p (copyFault g r (p .bitmap) (sourceBitmap g r p a xmax ymax) (block x y dx dy))
+-- triples of words
+faultOf g r p store (command.ScanLines a n) = drawFault p (cond (arrayBad r (p .bitmap) a (6 * n)) faultData 0)

@@ -1,0 +1,44 @@
+-- A run (01, "One command"): "While status is 1 and budget is left". By recursion on the budget.
+use Prim.Native.Nat.{ℕ, zero, suc, _+_}
+use mathlib.Core.List.{List}
+use mathlib.Core.Bool.{cond}
+use lib.Dec.{eqb}
+use Rattle.model.specs.Numbers.{statusRunning}
+use Rattle.model.specs.Bitmaps.{Geometry, Row, paneSurface, pixels}
+use Rattle.model.specs.Record.{Pane}
+use Rattle.model.specs.Pixels.{changes}
+use Rattle.model.specs.Steps.{Plan, step}
+
+-- commands done, pixels visible, and the record, the screen and the store that are left
+pub record Finish : Type 0 where
+  pub count : ℕ
+  pub hits : ℕ
+  pub pane : Pane
+  pub screen : List ℕ
+  pub store : List ℕ
+
+-- nothing done
+abbrev pub idle : Pane → List ℕ → List ℕ → Finish
+idle p screen store = record { count = 0; hits = 0; pane = p; screen = screen; store = store }
+
+-- a plan carried out
+abbrev pub carried : Geometry → Row → Plan → List ℕ → Finish
+carried g r plan screen =
+    record { count = plan .counted; hits = plan .hits; pane = plan .pane; screen = changes (paneSurface g r) (plan .drawn) screen; store = plan .store }
+
+-- one step, carried out
+unfoldable pub stepped : Geometry → Row → Pane → List ℕ → List ℕ → Finish
+stepped g r p screen store = carried g r (step g r p (pixels (paneSurface g r) screen) store) screen
+
+-- so many commands and pixels, and then what follows
+abbrev pub after : ℕ → ℕ → Finish → Finish
+after n h f = record { count = n + f .count; hits = h + f .hits; pane = f .pane; screen = f .screen; store = f .store }
+
+unfoldable pub follow : (Pane → List ℕ → List ℕ → Finish) → Finish → Finish
+follow rest a = after (a .count) (a .hits) (rest (a .pane) (a .screen) (a .store))
+
+-- "A spent budget leaves status 1, even before an end word"
+unfoldable pub runs : Geometry → Row → ℕ → Pane → List ℕ → List ℕ → Finish
+runs g r zero p screen store = idle p screen store
+runs g r (suc n) p screen store =
+    cond (eqb (p .progress .status) statusRunning) (follow (λ q s t. runs g r n q s t) (stepped g r p screen store)) (idle p screen store)

@@ -1,0 +1,302 @@
+// The plain data of the pane console that all crates share: structs and enums by value, no functions.
+// What they mean is stated in specs/, in the order of the paper.
+
+// ---- Screen, panes, stores
+
+// The screen's size in pixels, and its bits per pixel.
+pub struct Geometry {
+    pub width: u32,
+    pub height: u32,
+    pub depth: u32,
+}
+
+// A row of the table, one for each pane: a rectangle of the screen, and the store, a part of the stores buffer.
+pub struct Row {
+    pub left: u32,
+    pub top: u32,
+    pub width: u32,
+    pub height: u32,
+    pub start: u32,
+    pub len: u32,
+}
+
+// How far a list has come. Status: 0 parked, 1 running, 2 ended, 3 faulted.
+pub struct Progress {
+    pub status: u8,
+    pub fault: u8,
+    pub pointer: u32,
+}
+
+// A position: the bit patterns of two 16-bit signed coordinates.
+pub struct Point {
+    pub x: u16,
+    pub y: u16,
+}
+
+// The active bitmap, with the values that DEF_BITMAP gave.
+pub enum Bitmap {
+    Absent,
+    Pane {
+        xmax: u16,
+        ymax: u16,
+        bits: u16,
+    },
+    Store {
+        address: u32,
+        xmax: u16,
+        ymax: u16,
+        bits: u16,
+    },
+}
+
+// The clip rectangle, all four sides in.
+pub struct Clip {
+    pub xmin: u16,
+    pub ymin: u16,
+    pub xmax: u16,
+    pub ymax: u16,
+}
+
+// What pixels are drawn with: colours, raster operation with its mask, pattern.
+pub struct Pen {
+    pub fore: u16,
+    pub back: u16,
+    pub op: u8,
+    pub mask: u16,
+    pub pattern: u16,
+    pub transparent: bool,
+}
+
+// The font: none, or its base address in word mode or in byte mode.
+pub enum Font {
+    Absent,
+    Word(u32),
+    Byte(u32),
+}
+
+// What characters are drawn with; path and rotation in quarter turns.
+pub struct Text {
+    pub spacing: u16,
+    pub path: u8,
+    pub rotation: u8,
+    pub font: Font,
+}
+
+// Pick mode, and the pick and trap flags.
+pub struct Flags {
+    pub picking: bool,
+    pub pick: bool,
+    pub trap: bool,
+}
+
+// The return addresses that CALL kept, the latest at count - 1.
+pub struct Returns {
+    pub addresses: [u32; 8],
+    pub count: u8,
+}
+
+// A pane record.
+pub struct Pane {
+    pub progress: Progress,
+    pub position: Point,
+    pub bitmap: Bitmap,
+    pub clip: Clip,
+    pub pen: Pen,
+    pub text: Text,
+    pub flags: Flags,
+    pub returns: Returns,
+}
+
+// The console record. The first `count` rows are the table; pane n has row n and record n.
+pub struct Console {
+    pub geometry: Geometry,
+    pub count: u32,
+    pub rows: [Row; 8],
+    pub panes: [Pane; 8],
+}
+
+// ---- One command
+
+// What an opcode number names.
+pub enum Opcode {
+    Link,
+    Nop,
+    DefTexture(bool),
+    DefCharSet(bool),
+    Call,
+    Return,
+    DefBitmap,
+    DefColors,
+    DefLogicalOp,
+    EnterPick,
+    ExitPick,
+    DefClipRect,
+    DefSpace,
+    DefCharOrient,
+    AbsMov,
+    RelMov,
+    Point,
+    Line,
+    Rect,
+    BitBlt,
+    Polyline,
+    Char(bool),
+    BitBltM,
+    ScanLines,
+}
+
+// An opcode number: what it names with the number of its parameter words, or unknown.
+pub enum Shape {
+    Known(Opcode, u8),
+    Unknown,
+}
+
+// A command with its words. Coordinates and offsets are 16-bit patterns, addresses have 22 bits.
+pub enum Command {
+    Link {
+        address: u32,
+    },
+    Nop,
+    DefTexture {
+        pattern: u16,
+        transparent: bool,
+    },
+    DefCharSet {
+        base: u32,
+        bytes: bool,
+    },
+    Call {
+        address: u32,
+    },
+    Return,
+    DefBitmap {
+        address: u32,
+        xmax: u16,
+        ymax: u16,
+        bits: u16,
+    },
+    DefColors {
+        fore: u16,
+        back: u16,
+    },
+    DefLogicalOp {
+        mask: u16,
+        code: u16,
+    },
+    EnterPick,
+    ExitPick,
+    DefClipRect {
+        xmin: u16,
+        ymin: u16,
+        xmax: u16,
+        ymax: u16,
+    },
+    DefSpace {
+        spacing: u16,
+    },
+    DefCharOrient {
+        orientation: u16,
+    },
+    AbsMov {
+        x: u16,
+        y: u16,
+    },
+    RelMov {
+        dx: u16,
+        dy: u16,
+    },
+    Point {
+        dx: u16,
+        dy: u16,
+    },
+    Line {
+        dx: u16,
+        dy: u16,
+    },
+    Rect {
+        dx: u16,
+        dy: u16,
+    },
+    BitBlt {
+        x: u16,
+        y: u16,
+        dx: u16,
+        dy: u16,
+    },
+    Polyline {
+        array: u32,
+        count: u16,
+    },
+    Char {
+        string: u32,
+        count: u16,
+        transparent: bool,
+    },
+    BitBltM {
+        address: u32,
+        xmax: u16,
+        ymax: u16,
+        x: u16,
+        y: u16,
+        dx: u16,
+        dy: u16,
+    },
+    ScanLines {
+        array: u32,
+        count: u16,
+    },
+}
+
+// What stands at the pointer: a command with the address after it, the end, or a fault.
+pub enum Decoded {
+    Do(Command, u32),
+    End,
+    Fault(u8),
+}
+
+// ---- Pixels
+
+// Pixels in a buffer: rows of so many words from the base byte on, and of these rows and columns the rectangle from
+// (left, top) on. The pane and a bitmap in the store are both one.
+pub struct Surface {
+    pub base: usize,
+    pub words: usize,
+    pub bits: usize,
+    pub left: usize,
+    pub top: usize,
+    pub width: usize,
+    pub height: usize,
+}
+
+// What a pixel is drawn with: nothing (a 0 under transparency), a colour word, or a copied value.
+pub enum Source {
+    Nothing,
+    Colour(u16),
+    Copied(u8),
+}
+
+// ---- Replies
+
+// What run answers.
+pub struct Ran {
+    pub commands: u32,
+    pub status: u8,
+    pub fault: u8,
+}
+
+// What look answers.
+pub struct View {
+    pub progress: Progress,
+    pub position: Point,
+    pub pick: bool,
+    pub trap: bool,
+}
+
+// A call's reply: the refusal, or acceptance with its values.
+pub enum Reply {
+    Refused(u8),
+    Done,
+    Ran(Ran),
+    Seen(View),
+    Value(u8),
+}
