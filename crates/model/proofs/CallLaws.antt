@@ -32,7 +32,7 @@ use Rattle.model.proofs.PixelLaws.{Fits, Framed, fits-framed, framed-re
 
 -- ## A step keeps the store's length: the one law of a command that isolation needs
 
-change-length : (u : Surface) (c : Change) (s : List ℕ) → length (change u c s) ≡ length s
+pub change-length : (u : Surface) (c : Change) (s : List ℕ) → length (change u c s) ≡ length s
 unfolding change
 change-length u c s = cond-ind (λ (t : List ℕ). length t ≡ length s) (inside u (c .x) (c .y)) _ _ (λ e. length-put s _ (u .bits) _) (λ e. refl)
 

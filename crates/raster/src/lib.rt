@@ -1,21 +1,14 @@
-// The pixel leaf: words of a buffer, where a pixel lies, one pixel read, one pixel blended.
-ghost use mathlib.Core.Path.{_≡_};
-ghost use Prim.Native.Nat.{_+_, _<_};
-ghost use lib.ListN.{length};
-ghost use Rattle.model.specs.Words.{wordAt};
+// The pixel leaf: words of a buffer, the sixteen operations, where a pixel lies, one pixel read, one pixel blended.
+pub mod words; // words.rt: a word of a buffer
+pub mod operations; // operations.rt: the table of sixteen operations, and bits of bytes combined
+pub mod place; // place.rt: the byte and the bit at which a pixel lies
+pub mod pixels; // pixels.rt: one pixel read, one pixel blended
 
-fn wide(b: u8) -> u16
-    ensures { λ r. ⌜ (r ≡ b) × (r < 256) ⌝ }
-{
-    b as u16
-}
-
-// The word at a byte of a buffer, low byte first.
-pub fn word(s: &[u8], at: usize) -> u16
-    requires { ⌜ at + 1 < length (now s) ⌝ }
-    ensures { λ r. ⌜ r ≡ wordAt (now (s .entry)) at ⌝ }
-{
-    let low = wide(s[at]);
-    let high = wide(s[at + 1]);
-    low + 256 * high
-}
+pub use operations::Truth;
+pub use operations::truth_of;
+pub use pixels::blend_colour;
+pub use pixels::blend_value;
+pub use pixels::pixel;
+pub use place::Spot;
+pub use place::spot_of;
+pub use words::word;

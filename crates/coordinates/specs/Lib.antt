@@ -1,0 +1,2 @@
+-- What the contracts of `coordinates` cite beside model's definitions.
+pub mod Offsets

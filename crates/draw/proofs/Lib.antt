@@ -1,0 +1,4 @@
+-- Laws of dots on a canvas.
+pub mod CanvasLaws
+pub mod KeptLaws
+pub mod TargetLaws

@@ -1,0 +1,154 @@
+// Drawing on the active bitmap, which lies in the screen or in the pane's store: one dot through clip, transparency and
+// pick mode. Every drawing command is a list of such dots.
+ghost use mathlib.Core.Path.{_≡_};
+ghost use Prim.Native.Nat.{_+_, _≤_, _<_, _^_};
+ghost use lib.IntN.{pos};
+ghost use lib.ListN.{length};
+ghost use Rattle.model.specs.Coordinates.{at, offset, place};
+ghost use Rattle.model.specs.Dots.{dot};
+ghost use Rattle.model.specs.Pixels.{penSource, patternSource};
+ghost use Rattle.model.specs.Words.{bit};
+ghost use Rattle.model.specs.declared.Source.the-variants.{Colour, Copied};
+ghost use Rattle.coordinates.specs.Offsets.{turned};
+ghost use Rattle.draw.specs.Canvas.{canvas, changedUnless, painted};
+ghost use Rattle.draw.specs.Targets.{Ready, InClip, changeWith};
+use coordinates::Spot;
+use model::Clip;
+use model::Pen;
+use model::Point;
+use model::Source;
+use model::Surface;
+use raster::Truth;
+
+// Where and how a command draws: the active bitmap, which lies in the screen if `pane` and else in the store, its clip,
+// the pen, and the truth table of the pen's operation, looked up once a command.
+pub struct Target {
+    pub pane: bool,
+    pub picking: bool,
+    pub surface: Surface,
+    pub clip: Clip,
+    pub pen: Pen,
+    pub truth: Truth,
+}
+
+// Which way a command goes from its start: to the left, and up, or not.
+pub struct Heading {
+    pub left: bool,
+    pub up: bool,
+}
+
+// Bit k of a word.
+pub fn bit_of(w: u16, k: usize) -> bool
+    requires { ⌜ k < 16 ⌝ }
+    ensures { λ r. ⌜ r ≡ bit w k ⌝ }
+{
+    (w >> k) % 2 == 1
+}
+
+// What a bit of a pattern or cell puts down.
+pub fn pen_source(pen: Pen, transparent: bool, on: bool) -> Source
+    ensures { λ r. ⌜ r ≡ penSource pen transparent on ⌝ }
+{
+    if on {
+        return Source::Colour(pen.fore);
+    }
+    if transparent {
+        return Source::Nothing;
+    }
+    Source::Colour(pen.back)
+}
+
+// What pixel i of a line is drawn with.
+pub fn pattern_source(pen: Pen, i: usize) -> Source
+    ensures { λ r. ⌜ r ≡ patternSource pen i ⌝ }
+{
+    let on = bit_of(pen.pattern, 15 - i % 16);
+    pen_source(pen, pen.transparent, on)
+}
+
+// Pixel (x,y) of the bitmap, which lies in the clip, drawn with a colour; nothing in pick mode.
+fn put_colour(screen: &mut [u8], store: &mut [u8], t: Target, x: usize, y: usize, colour: u16)
+    requires { ⌜ Ready t (length (now screen)) (length (now store)) × InClip t x y ⌝ }
+    ensures { λ _. ⌜ canvas (now (screen .exit)) (now (store .exit)) 0 ≡ changedUnless (t .picking) (t .pane) (t .surface) (changeWith t (Colour colour) x y) (canvas (now (screen .entry)) (now (store .entry)) 0) ⌝ }
+{
+    if t.picking {
+        return;
+    }
+    let s = t.surface;
+    let pen = t.pen;
+    let truth = t.truth;
+    if t.pane {
+        raster::blend_colour(screen, s, pen, truth, x, y, colour);
+    } else {
+        raster::blend_colour(store, s, pen, truth, x, y, colour);
+    }
+}
+
+// Pixel (x,y) of the bitmap, which lies in the clip, drawn with a copied value; nothing in pick mode.
+fn put_value(screen: &mut [u8], store: &mut [u8], t: Target, x: usize, y: usize, value: u8)
+    requires { ⌜ Ready t (length (now screen)) (length (now store)) × InClip t x y ⌝ }
+    ensures { λ _. ⌜ canvas (now (screen .exit)) (now (store .exit)) 0 ≡ changedUnless (t .picking) (t .pane) (t .surface) (changeWith t (Copied value) x y) (canvas (now (screen .entry)) (now (store .entry)) 0) ⌝ }
+{
+    if t.picking {
+        return;
+    }
+    let s = t.surface;
+    let pen = t.pen;
+    let truth = t.truth;
+    if t.pane {
+        raster::blend_value(screen, s, pen, truth, x, y, value);
+    } else {
+        raster::blend_value(store, s, pen, truth, x, y, value);
+    }
+}
+
+// The dot at (x,y), which lies in the clip: hits, or one more if it is visible.
+pub fn plot(
+    screen: &mut [u8],
+    store: &mut [u8],
+    t: Target,
+    x: usize,
+    y: usize,
+    source: Source,
+    hits: usize,
+) -> usize
+    requires { ⌜ Ready t (length (now screen)) (length (now store)) × InClip t x y × (hits < 2 ^ 63) ⌝ }
+    ensures { λ r. ⌜ canvas (now (screen .exit)) (now (store .exit)) r ≡ painted t (dot (at (pos x) (pos y)) source) (canvas (now (screen .entry)) (now (store .entry)) hits) ⌝ }
+{
+    match source {
+        Source::Nothing => hits,
+        Source::Colour(w) => {
+            put_colour(screen, store, t, x, y, w);
+            hits + 1
+        }
+        Source::Copied(v) => {
+            put_value(screen, store, t, x, y, v);
+            hits + 1
+        }
+    }
+}
+
+// The dot kx along x and ky along y from a position, in a heading: hits, or one more if it is visible.
+pub fn draw_dot(
+    screen: &mut [u8],
+    store: &mut [u8],
+    t: Target,
+    from: Point,
+    h: Heading,
+    kx: usize,
+    ky: usize,
+    source: Source,
+    hits: usize,
+) -> usize
+    requires { ⌜ Ready t (length (now screen)) (length (now store)) × (kx ≤ 65536) × (ky ≤ 65536) × (hits < 2 ^ 63) ⌝ }
+    ensures { λ r. ⌜ canvas (now (screen .exit)) (now (store .exit)) r ≡ painted t (dot (offset (place from) (turned (h .left) kx) (turned (h .up) ky)) source) (canvas (now (screen .entry)) (now (store .entry)) hits) ⌝ }
+{
+    let clip = t.clip;
+    let Spot::At(x) = coordinates::spot_between(from.x, h.left, kx, clip.xmin, clip.xmax) else {
+        return hits;
+    };
+    let Spot::At(y) = coordinates::spot_between(from.y, h.up, ky, clip.ymin, clip.ymax) else {
+        return hits;
+    };
+    plot(screen, store, t, x, y, source, hits)
+}

@@ -1,0 +1,135 @@
+-- A pixel of a surface through the byte that holds it: reading it is reading a field of that byte, and a blend stores that byte alone.
+-- Assumes nothing.
+use mathlib.Core.Path.{_≡_, refl, sym, ap, ap₂, _∙_}
+use mathlib.Core.Bool.{Bool, true, false, cond, _&&_}
+use mathlib.Core.List.{List}
+use Prim.Native.Nat.{ℕ, _+_, _-_, _*_, _/_, _%_, _^_, _≤_, _<_}
+use native.Mathlib.Omega.{arith}
+use native.Mathlib.Nat.{mul-le-mul-left, mul-le-mul-right}
+use borrow.Author.Tests.{leb-true, ltb-true}
+use lib.Dec.{leb, ltb}
+use lib.ListN.{length, getD, set}
+use Rattle.model.specs.Words.{bit, num, within, fieldAt, splice, putField}
+use Rattle.model.specs.Operations.{opBit, newBit}
+use Rattle.model.specs.Bitmaps.{placeBit, placeShift, pixels}
+use Rattle.model.specs.Pixels.{sourceBit, blend, change}
+use Rattle.model.specs.declared.Surface.{Surface}
+use Rattle.model.specs.declared.Pen.{Pen}
+use Rattle.model.specs.declared.Source.{Source}
+use Rattle.model.specs.declared.Source.the-variants.{Colour, Copied}
+use Rattle.model.proofs.BitLaws.{num-cong}
+use Rattle.model.proofs.CodeLaws.{blend-byte}
+use Rattle.model.proofs.Decisions.{split, both-true, cond-true}
+use Rattle.model.proofs.PlaceLaws.{in-rows}
+use Rattle.model.proofs.PixelLaws.{inside-of, pixels-in}
+use Rattle.raster.specs.declared.place.Spot.{Spot}
+use Rattle.raster.specs.Operations.{Truth, truthOf, chosen, field}
+use Rattle.raster.specs.Place.{Placed, Lies, Drawable}
+use Rattle.raster.specs.Pixels.{blending, overlaid}
+use Rattle.raster.proofs.BitLaws.{bit-mod, bit-shl, field-bit}
+use Rattle.raster.proofs.ByteLaws.{chosen-bit}
+use Rattle.raster.proofs.SpotLaws.{depth-bounds}
+
+-- ## One byte
+
+masked : (m w n d : Bool) → cond (m && w) n d ≡ cond w (cond m n d) d
+masked true true n d = refl
+masked true false n d = refl
+masked false true n d = refl
+masked false false n d = refl
+
+-- the byte that the code stores is the byte with the pixel's field blended
+pub overlaid-blend : (old : ℕ) (p : Spot) (b : ℕ) (pen : Pen) (source : Source) (t : Truth) (byte : ℕ) → t ≡ truthOf (pen .op)
+    → ((i : ℕ) → p .shift ≤ i → i < p .shift + b → bit byte i ≡ sourceBit source (8 * p .half + p .shift) (i - p .shift))
+    → overlaid old p b (pen .mask) t byte ≡ splice old (p .shift) b (blend b (8 * p .half + p .shift) pen source (field old (p .shift) b))
+unfolding overlaid field
+overlaid-blend old p b pen source t byte e h = num-cong 8 _ _ each ∙ sym (blend-byte old (p .shift) (p .half) b pen source)
+  where
+    S : ℕ → Bool
+    S i = sourceBit source (8 * p .half + p .shift) (i - p .shift)
+
+    M : ℕ → Bool
+    M i = bit (pen .mask) (8 * p .half + i)
+
+    each : (i : ℕ) → i < 8
+        → cond (M i && within (p .shift) b i) (bit (chosen t byte old) i) (bit old i)
+        ≡ cond (within (p .shift) b i) (newBit (pen .op) (M i) (S i) (bit old i)) (bit old i)
+    each i l =
+        masked (M i) (within (p .shift) b i) (bit (chosen t byte old) i) (bit old i)
+        ∙ split (within (p .shift) b i)
+        (λ w. let k = both-true (leb (p .shift) i) (ltb i (p .shift + b)) w in
+        ap (λ (z : Bool). cond (within (p .shift) b i) (cond (M i) z (bit old i)) (bit old i))
+        (ap (λ (t : Truth). bit (chosen t byte old) i) e ∙ chosen-bit (pen .op) byte old i l
+        ∙ ap (λ (z : Bool). opBit (pen .op) z (bit old i)) (h i (leb-true (p .shift) i (k .0)) (ltb-true i (p .shift + b) (k .1)))))
+        (λ w. rw w refl)
+
+-- ## A source byte
+
+-- the half of a colour word that lies over the pixel's byte
+pub colour-bits : (p : Spot) (b colour : ℕ) {byte : ℕ} → p .shift + b ≤ 8 → byte ≡ field colour (8 * p .half) 8
+    → (i : ℕ) → p .shift ≤ i → i < p .shift + b → bit byte i ≡ sourceBit (Colour colour) (8 * p .half + p .shift) (i - p .shift)
+colour-bits p b colour f e i h l =
+    let k : 8 * p .half + i ≡ 8 * p .half + p .shift + (i - p .shift) = omega arith in
+    ap (λ (z : ℕ). bit z i) e ∙ field-bit colour (8 * p .half) 8 i (omega arith) ∙ ap (bit colour) k
+
+-- a copied value shifted to the pixel's bits
+pub value-bits : (p : Spot) (b value : ℕ) → p .shift + b ≤ 8
+    → (i : ℕ) → p .shift ≤ i → i < p .shift + b → bit (value * 2 ^ p .shift % 2 ^ 8) i ≡ sourceBit (Copied value) (8 * p .half + p .shift) (i - p .shift)
+value-bits p b value f i h l =
+    let k : i ≡ p .shift + (i - p .shift) = omega arith in
+    bit-mod 8 (value * 2 ^ p .shift) i (omega arith) ∙ ap (bit (value * 2 ^ p .shift)) k ∙ bit-shl value (p .shift) (i - p .shift)
+
+-- ## A pixel in its buffer
+
+module _ (s : Surface) (buffer : List ℕ) (x y : ℕ) (d : Drawable s buffer x y) where
+  pub place-in : placeBit s x y / 8 < length buffer
+  unfolding placeBit
+  place-in =
+      let h =
+      in-rows (s .base) (s .words) (s .bits) (d .fits .depth) (s .left + s .width) (d .fits .right) (s .left + x) (s .top + y) (s .top + s .height)
+      (omega (arith, d .column)) (omega (arith, d .row)) in
+      omega (arith, d .fits .long)
+
+  pub placed : length buffer < 2 ^ 64 → Placed s x y
+  placed l =
+      let b = depth-bounds (d .fits .depth) in
+      let w : 0 < s .words = omega (arith, d .column, d .fits .right, mul-le-mul-left (s .left + s .width) (b .0)) in
+      record {
+        depth = d .fits .depth;
+        column = omega (arith, d .column, d .small);
+        row = omega (arith, d .row, d .fits .long, mul-le-mul-left (s .top + s .height) w);
+        byte = omega (arith, place-in);
+      }
+
+  module _ (p : Spot) (q : Lies s x y p) where
+    at-is : placeBit s x y / 8 ≡ p .at
+    at-is = omega (arith, q .bit, q .inside, depth-bounds (d .fits .depth))
+
+    shift-is : placeBit s x y % 8 ≡ p .shift
+    shift-is = omega (arith, q .bit, q .inside, depth-bounds (d .fits .depth))
+
+    pub spot-in : p .at < length buffer
+    spot-in = omega (arith, place-in, at-is)
+
+    pub pixels-at : pixels s buffer x y ≡ field (getD buffer (p .at) 0) (p .shift) (s .bits)
+    unfolding fieldAt field
+    pixels-at =
+        pixels-in s buffer x y (inside-of s x y (d .column) (d .row))
+        ∙ ap₂ (λ (a k : ℕ). num (s .bits) (λ i. bit (getD buffer a 0) (k + i))) at-is shift-is
+
+    pub change-at : (new : ℕ → ℕ)
+        → change s (record { x = x; y = y; new = new }) buffer
+        ≡ set buffer (p .at) (splice (getD buffer (p .at) 0) (p .shift) (s .bits) (new (field (getD buffer (p .at) 0) (p .shift) (s .bits))))
+    unfolding change putField
+    change-at new =
+        cond-true _ _ (inside-of s x y (d .column) (d .row))
+        ∙ ap₂ (λ (a k : ℕ). set buffer a (splice (getD buffer a 0) k (s .bits) (new (pixels s buffer x y)))) at-is shift-is
+        ∙ ap (λ (v : ℕ). set buffer (p .at) (splice (getD buffer (p .at) 0) (p .shift) (s .bits) (new v))) pixels-at
+
+    pub blending-at : (pen : Pen) (source : Source) (t : Truth) (byte : ℕ) → t ≡ truthOf (pen .op)
+        → ((i : ℕ) → p .shift ≤ i → i < p .shift + s .bits → bit byte i ≡ sourceBit source (8 * p .half + p .shift) (i - p .shift))
+        → set buffer (p .at) (overlaid (getD buffer (p .at) 0) p (s .bits) (pen .mask) t byte) ≡ change s (blending s pen source x y) buffer
+    blending-at pen source t byte e h =
+        ap (set buffer (p .at)) (overlaid-blend (getD buffer (p .at) 0) p (s .bits) pen source t byte e h)
+        ∙ ap (λ (k : ℕ). set buffer (p .at) (splice (getD buffer (p .at) 0) (p .shift) (s .bits) (blend (s .bits) k pen source (field (getD buffer (p .at) 0) (p .shift) (s .bits))))) (q .word)
+        ∙ sym (change-at (blend (s .bits) (placeShift s x) pen source))

@@ -1,0 +1,6 @@
+-- Laws that the proofs of `raster` and of its callers cite.
+pub mod Table
+pub mod BitLaws
+pub mod ByteLaws
+pub mod SpotLaws
+pub mod BlendLaws

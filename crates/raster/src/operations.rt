@@ -1,0 +1,80 @@
+// The sixteen operations as a table, and bytes combined bit by bit with the machine's operations.
+ghost use mathlib.Core.Path.{_≡_};
+ghost use mathlib.Core.Bool.{cond};
+ghost use Prim.Native.Nat.{_+_, _*_, _<_, _≤_};
+ghost use Rattle.model.specs.Words.{bit, num, within};
+ghost use Rattle.raster.specs.Operations.{truthOf, muxed, chosen, field};
+
+// A truth table, each of its four bits spread over a byte: A, B, C and D of its code.
+pub struct Truth(pub u8, pub u8, pub u8, pub u8);
+
+// The sixteen operations, by code.
+const TRUTHS: [Truth; 16] = [
+    Truth(0, 0, 0, 0),
+    Truth(0, 0, 0, 255),
+    Truth(0, 0, 255, 0),
+    Truth(0, 0, 255, 255),
+    Truth(0, 255, 0, 0),
+    Truth(0, 255, 0, 255),
+    Truth(0, 255, 255, 0),
+    Truth(0, 255, 255, 255),
+    Truth(255, 0, 0, 0),
+    Truth(255, 0, 0, 255),
+    Truth(255, 0, 255, 0),
+    Truth(255, 0, 255, 255),
+    Truth(255, 255, 0, 0),
+    Truth(255, 255, 0, 255),
+    Truth(255, 255, 255, 0),
+    Truth(255, 255, 255, 255),
+];
+
+// The truth table of a code.
+pub fn truth_of(code: u8) -> Truth
+    requires { ⌜ code < 16 ⌝ }
+    ensures { λ r. ⌜ r ≡ truthOf code ⌝ }
+{
+    let row = code as usize;
+    TRUTHS[row]
+}
+
+// Each bit is y's where m's is 1, else x's.
+pub fn mux(m: u8, x: u8, y: u8) -> u8
+    ensures { λ r. ⌜ r ≡ muxed m x y ⌝ }
+{
+    x ^ ((x ^ y) & m)
+}
+
+// The operation of each bit of a source byte and of an old byte.
+pub fn operate(truth: Truth, source: u8, old: u8) -> u8
+    ensures { λ r. ⌜ r ≡ chosen truth source old ⌝ }
+{
+    let a = truth.0;
+    let b = truth.1;
+    let c = truth.2;
+    let d = truth.3;
+    mux(old, mux(source, a, b), mux(source, c, d))
+}
+
+// One byte of a word: 0 the low one, 1 the high one.
+pub fn half_of(word: u16, half: usize) -> u8
+    requires { ⌜ half < 2 ⌝ }
+    ensures { λ r. ⌜ r ≡ field word (8 * half) 8 ⌝ }
+{
+    ((word >> (8 * half)) % 256) as u8
+}
+
+// The byte whose b bits from k on are set.
+pub fn field_mask(k: usize, b: usize) -> u8
+    requires { ⌜ k + b ≤ 8 ⌝ }
+    ensures { λ r. ⌜ r ≡ num 8 (within k b) ⌝ }
+{
+    ((((1u32 << b) - 1) << k) % 256) as u8
+}
+
+// The b bits of a byte from k on, as a number.
+pub fn field_of(byte: u8, k: usize, b: usize) -> u8
+    requires { ⌜ k + b ≤ 8 ⌝ }
+    ensures { λ r. ⌜ r ≡ field byte k b ⌝ }
+{
+    (((byte as u32) >> k) % (1u32 << b)) as u8
+}
