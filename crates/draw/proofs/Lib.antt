@@ -2,3 +2,4 @@
 pub mod CanvasLaws
 pub mod KeptLaws
 pub mod TargetLaws
+pub mod PlanLaws

@@ -2,7 +2,12 @@
 use mathlib.Core.Path.{_≡_}
 use mathlib.Core.Bool.{Bool, true, false, cond}
 use Prim.Native.Nat.{ℕ, _+_, _*_, _≤_, _<_}
-use Rattle.model.specs.Bitmaps.{placeShift}
+use Rattle.model.specs.Bitmaps.{placeShift, surfaceOf}
+use Rattle.model.specs.declared.Geometry.{Geometry}
+use Rattle.model.specs.declared.Row.{Row}
+use Rattle.model.specs.declared.Pane.{Pane}
+use Rattle.model.specs.declared.Bitmap.{Bitmap}
+use Rattle.model.specs.declared.Bitmap.the-variants as bitmap
 use Rattle.model.specs.Pixels.{Change, blend}
 use Rattle.model.specs.declared.Source.{Source}
 use Rattle.model.proofs.PlaceLaws.{Depth}
@@ -30,3 +35,22 @@ pub record InClip (t : Target) (x y : ℕ) : Type 0 where
 -- pixel (x,y) becomes the blend of the source and its old value
 abbrev pub changeWith : Target → Source → ℕ → ℕ → Change
 changeWith t source x y = record { x = x; y = y; new = blend (t .surface .bits) (placeShift (t .surface) x) (t .pen) source }
+
+-- ## The target of a pane's drawing commands
+
+abbrev pub isPane : Bitmap → Bool
+isPane bitmap.Absent = false
+isPane (bitmap.Pane xmax ymax b) = true
+isPane (bitmap.Store a xmax ymax b) = false
+
+-- the active bitmap with its clip, and how the record says that its pixels are drawn
+unfoldable pub targetOf : Geometry → Row → Pane → Target
+targetOf g r p =
+    record {
+      pane = isPane (p .bitmap);
+      picking = p .flags .picking;
+      surface = surfaceOf g r (p .bitmap);
+      clip = p .clip;
+      pen = p .pen;
+      truth = truthOf (p .pen .op);
+    }

@@ -4,6 +4,7 @@ ghost use mathlib.Core.Path.{_≡_};
 ghost use Prim.Native.Nat.{_+_, _≤_, _<_, _^_};
 ghost use lib.IntN.{pos};
 ghost use lib.ListN.{length};
+ghost use Rattle.model.specs.Bitmaps.{surfaceOf};
 ghost use Rattle.model.specs.Coordinates.{at, offset, place};
 ghost use Rattle.model.specs.Dots.{dot};
 ghost use Rattle.model.specs.Pixels.{penSource, patternSource};
@@ -11,11 +12,15 @@ ghost use Rattle.model.specs.Words.{bit};
 ghost use Rattle.model.specs.declared.Source.the-variants.{Colour, Copied};
 ghost use Rattle.coordinates.specs.Offsets.{turned};
 ghost use Rattle.draw.specs.Canvas.{canvas, changedUnless, painted};
-ghost use Rattle.draw.specs.Targets.{Ready, InClip, changeWith};
+ghost use Rattle.draw.specs.Targets.{Ready, InClip, changeWith, isPane, targetOf};
 use coordinates::Spot;
+use model::Bitmap;
 use model::Clip;
+use model::Geometry;
+use model::Pane;
 use model::Pen;
 use model::Point;
+use model::Row;
 use model::Source;
 use model::Surface;
 use raster::Truth;
@@ -29,6 +34,92 @@ pub struct Target {
     pub clip: Clip,
     pub pen: Pen,
     pub truth: Truth,
+}
+
+// The surface of a bitmap: the pane's rectangle of the screen, or a bitmap in the store.
+pub fn surface_of(g: Geometry, r: Row, b: Bitmap) -> Surface
+    requires { ⌜ (g .width ≤ 4096) × (g .depth ≤ 8) ⌝ }
+    ensures { λ s. ⌜ s ≡ surfaceOf g r b ⌝ }
+{
+    match b {
+        Bitmap::Absent => Surface {
+            base: 0,
+            words: 0,
+            bits: 0,
+            left: 0,
+            top: 0,
+            width: 0,
+            height: 0,
+        },
+        Bitmap::Pane {
+            xmax: _,
+            ymax: _,
+            bits: _,
+        } => Surface {
+            base: 0,
+            words: checks::bitmap::row_words(g.width as usize, g.depth as usize),
+            bits: g.depth as usize,
+            left: r.left as usize,
+            top: r.top as usize,
+            width: r.width as usize,
+            height: r.height as usize,
+        },
+        Bitmap::Store {
+            address,
+            xmax,
+            ymax,
+            bits,
+        } => Surface {
+            base: address as usize,
+            words: checks::bitmap::row_words(xmax as usize + 1, bits as usize),
+            bits: bits as usize,
+            left: 0,
+            top: 0,
+            width: xmax as usize + 1,
+            height: ymax as usize + 1,
+        },
+    }
+}
+
+// Whether a bitmap is the pane.
+fn is_pane(b: Bitmap) -> bool
+    ensures { λ r. ⌜ r ≡ isPane b ⌝ }
+{
+    match b {
+        Bitmap::Absent => false,
+        Bitmap::Pane {
+            xmax: _,
+            ymax: _,
+            bits: _,
+        } => true,
+        Bitmap::Store {
+            address: _,
+            xmax: _,
+            ymax: _,
+            bits: _,
+        } => false,
+    }
+}
+
+// Where and how a pane's record says that commands draw.
+pub fn target_of(g: Geometry, r: Row, p: Pane) -> Target
+    requires { ⌜ (g .width ≤ 4096) × (g .depth ≤ 8) × (p .pen .op < 16) ⌝ }
+    ensures { λ t. ⌜ t ≡ targetOf g r p ⌝ }
+{
+    let bitmap = p.bitmap;
+    let clip = p.clip;
+    let pen = p.pen;
+    let flags = p.flags;
+    let surface = surface_of(g, r, bitmap);
+    let truth = raster::truth_of(pen.op);
+    Target {
+        pane: is_pane(bitmap),
+        picking: flags.picking,
+        surface,
+        clip,
+        pen,
+        truth,
+    }
 }
 
 // Which way a command goes from its start: to the left, and up, or not.

@@ -2,7 +2,7 @@
 use mathlib.Core.Path.{_≡_, refl, sym, ap, ap₂, _∙_}
 use mathlib.Core.Bool.{Bool, true, false, cond, _&&_}
 use Prim.Native.Nat.{ℕ, zero, suc, _+_, _*_, _/_, _%_, _^_, _<_}
-use native.Mathlib.Nat.{not-suc-le-zero, le-of-suc-le-suc, zero-lt-suc, mod-one, mod-lt, div-one, zero-add, suc-add, mod-eq-of-lt, pow-suc, lt-of-le-of-lt, add-zero}
+use native.Mathlib.Nat.{not-suc-le-zero, le-of-suc-le-suc, zero-lt-suc, mod-one, mod-lt, div-one, zero-add, suc-add, mod-eq-of-lt, pow-suc, lt-of-le-of-lt}
 use native.Mathlib.Numerals.{add-one, one-add}
 use native.Mathlib.Omega.{arith}
 use lib.Bits.{bitAnd, bitXor, and-shr, and-mod, xor-shr, xor-mod, xor-lt, and-le-l}

@@ -5,11 +5,11 @@ use mathlib.Core.Bool.{Bool, true, false, cond, _&&_}
 use mathlib.Core.List.{List}
 use Prim.Native.Nat.{ℕ, _+_, _-_, _*_, _/_, _%_, _^_, _≤_, _<_}
 use native.Mathlib.Omega.{arith}
-use native.Mathlib.Nat.{mul-le-mul-left, mul-le-mul-right}
+use native.Mathlib.Nat.{mul-le-mul-left}
 use borrow.Author.Tests.{leb-true, ltb-true}
 use lib.Dec.{leb, ltb}
 use lib.ListN.{length, getD, set}
-use Rattle.model.specs.Words.{bit, num, within, fieldAt, splice, putField}
+use Rattle.model.specs.Words.{bit, num, within, fieldAt, splice}
 use Rattle.model.specs.Operations.{opBit, newBit}
 use Rattle.model.specs.Bitmaps.{placeBit, placeShift, pixels}
 use Rattle.model.specs.Pixels.{sourceBit, blend, change}
@@ -19,8 +19,7 @@ use Rattle.model.specs.declared.Source.{Source}
 use Rattle.model.specs.declared.Source.the-variants.{Colour, Copied}
 use Rattle.model.proofs.BitLaws.{num-cong}
 use Rattle.model.proofs.CodeLaws.{blend-byte}
-use Rattle.model.proofs.Decisions.{split, both-true, cond-true}
-use Rattle.model.proofs.PlaceLaws.{in-rows}
+use Rattle.model.proofs.Decisions.{split, both-true}
 use Rattle.model.proofs.PixelLaws.{inside-of, pixels-in}
 use Rattle.raster.specs.declared.place.Spot.{Spot}
 use Rattle.raster.specs.Operations.{Truth, truthOf, chosen, field}
@@ -29,6 +28,7 @@ use Rattle.raster.specs.Pixels.{blending, overlaid}
 use Rattle.raster.proofs.BitLaws.{bit-mod, bit-shl, field-bit}
 use Rattle.raster.proofs.ByteLaws.{chosen-bit}
 use Rattle.raster.proofs.SpotLaws.{depth-bounds}
+use Rattle.raster.proofs.ChangeLaws.{replaced, updated, byte-fits, change-in}
 
 -- ## One byte
 
@@ -82,14 +82,6 @@ value-bits p b value f i h l =
 -- ## A pixel in its buffer
 
 module _ (s : Surface) (buffer : List ℕ) (x y : ℕ) (d : Drawable s buffer x y) where
-  pub place-in : placeBit s x y / 8 < length buffer
-  unfolding placeBit
-  place-in =
-      let h =
-      in-rows (s .base) (s .words) (s .bits) (d .fits .depth) (s .left + s .width) (d .fits .right) (s .left + x) (s .top + y) (s .top + s .height)
-      (omega (arith, d .column)) (omega (arith, d .row)) in
-      omega (arith, d .fits .long)
-
   pub placed : length buffer < 2 ^ 64 → Placed s x y
   placed l =
       let b = depth-bounds (d .fits .depth) in
@@ -98,7 +90,7 @@ module _ (s : Surface) (buffer : List ℕ) (x y : ℕ) (d : Drawable s buffer x 
         depth = d .fits .depth;
         column = omega (arith, d .column, d .small);
         row = omega (arith, d .row, d .fits .long, mul-le-mul-left (s .top + s .height) w);
-        byte = omega (arith, place-in);
+        byte = omega (arith, byte-fits s buffer (d .fits) x y (d .column) (d .row));
       }
 
   module _ (p : Spot) (q : Lies s x y p) where
@@ -109,7 +101,7 @@ module _ (s : Surface) (buffer : List ℕ) (x y : ℕ) (d : Drawable s buffer x 
     shift-is = omega (arith, q .bit, q .inside, depth-bounds (d .fits .depth))
 
     pub spot-in : p .at < length buffer
-    spot-in = omega (arith, place-in, at-is)
+    spot-in = omega (arith, byte-fits s buffer (d .fits) x y (d .column) (d .row), at-is)
 
     pub pixels-at : pixels s buffer x y ≡ field (getD buffer (p .at) 0) (p .shift) (s .bits)
     unfolding fieldAt field
@@ -117,19 +109,15 @@ module _ (s : Surface) (buffer : List ℕ) (x y : ℕ) (d : Drawable s buffer x 
         pixels-in s buffer x y (inside-of s x y (d .column) (d .row))
         ∙ ap₂ (λ (a k : ℕ). num (s .bits) (λ i. bit (getD buffer a 0) (k + i))) at-is shift-is
 
-    pub change-at : (new : ℕ → ℕ)
-        → change s (record { x = x; y = y; new = new }) buffer
-        ≡ set buffer (p .at) (splice (getD buffer (p .at) 0) (p .shift) (s .bits) (new (field (getD buffer (p .at) 0) (p .shift) (s .bits))))
-    unfolding change putField
+    change-at : (new : ℕ → ℕ) → change s (record { x = x; y = y; new = new }) buffer ≡ updated (p .at) (replaced (p .shift) (s .bits) new) buffer
     change-at new =
-        cond-true _ _ (inside-of s x y (d .column) (d .row))
-        ∙ ap₂ (λ (a k : ℕ). set buffer a (splice (getD buffer a 0) k (s .bits) (new (pixels s buffer x y)))) at-is shift-is
-        ∙ ap (λ (v : ℕ). set buffer (p .at) (splice (getD buffer (p .at) 0) (p .shift) (s .bits) (new v))) pixels-at
+        change-in s (record { x = x; y = y; new = new }) buffer (inside-of s x y (d .column) (d .row))
+        ∙ ap₂ (λ (a k : ℕ). updated a (replaced k (s .bits) new) buffer) at-is shift-is
 
     pub blending-at : (pen : Pen) (source : Source) (t : Truth) (byte : ℕ) → t ≡ truthOf (pen .op)
         → ((i : ℕ) → p .shift ≤ i → i < p .shift + s .bits → bit byte i ≡ sourceBit source (8 * p .half + p .shift) (i - p .shift))
         → set buffer (p .at) (overlaid (getD buffer (p .at) 0) p (s .bits) (pen .mask) t byte) ≡ change s (blending s pen source x y) buffer
     blending-at pen source t byte e h =
         ap (set buffer (p .at)) (overlaid-blend (getD buffer (p .at) 0) p (s .bits) pen source t byte e h)
-        ∙ ap (λ (k : ℕ). set buffer (p .at) (splice (getD buffer (p .at) 0) (p .shift) (s .bits) (blend (s .bits) k pen source (field (getD buffer (p .at) 0) (p .shift) (s .bits))))) (q .word)
+        ∙ ap (λ (k : ℕ). updated (p .at) (replaced (p .shift) (s .bits) (blend (s .bits) k pen source)) buffer) (q .word)
         ∙ sym (change-at (blend (s .bits) (placeShift s x) pen source))

@@ -1,7 +1,7 @@
 -- What a truth table chooses, bit by bit: the operation of its code. Assumes nothing.
-use mathlib.Core.Path.{_≡_, refl, sym, ap, ap₂, _∙_}
+use mathlib.Core.Path.{_≡_, refl, ap, ap₂, _∙_}
 use mathlib.Core.Bool.{Bool, true, false, cond, _&&_}
-use Prim.Native.Nat.{ℕ, _+_, _*_, _<_}
+use Prim.Native.Nat.{ℕ, _*_, _<_}
 use lib.Bits.{bitAnd}
 use Rattle.model.specs.Words.{bit, num, within}
 use Rattle.model.specs.Operations.{opBit}

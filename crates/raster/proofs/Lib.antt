@@ -3,4 +3,5 @@ pub mod Table
 pub mod BitLaws
 pub mod ByteLaws
 pub mod SpotLaws
+pub mod ChangeLaws
 pub mod BlendLaws

@@ -1,7 +1,7 @@
 -- Where a pixel lies, as the code works it out: column c begins at bit z = c × b of its row, counted from a word's high end, so it lies
 -- in byte z / 8 with the lowest bit flipped (words are low byte first), b bits above the z mod 8 that follow it. Assumes nothing.
-use mathlib.Core.Path.{_≡_, refl, sym, ap, ap₂, _∙_}
-use Prim.Native.Nat.{ℕ, zero, suc, _+_, _-_, _*_, _/_, _%_, _^_, _≤_, _<_}
+use mathlib.Core.Path.{_≡_, refl, ap, ap₂, _∙_}
+use Prim.Native.Nat.{ℕ, zero, suc, _+_, _-_, _*_, _/_, _%_, _≤_, _<_}
 use native.Mathlib.Omega.{arith}
 use native.Mathlib.Nat.{mod-lt, mul-comm, mul-le-mul-right, mul-le-mul-left, div-add-mod'}
 use lib.Bits.{bitXor, differ, xor-step, xor-zero-r}

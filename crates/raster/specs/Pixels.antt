@@ -1,18 +1,20 @@
 -- A pixel blended: as a change of its surface, and as the byte that the code stores.
 use Prim.Native.Nat.{ℕ, _+_, _*_}
-use mathlib.Core.Bool.{Bool, cond, _&&_}
+use mathlib.Core.Bool.{cond, _&&_}
+use lib.IntN.{pos}
 use Rattle.model.specs.Words.{bit, num, within}
-use Rattle.model.specs.Bitmaps.{placeShift}
-use Rattle.model.specs.Pixels.{Change, blend}
+use Rattle.model.specs.Coordinates.{at}
+use Rattle.model.specs.Pixels.{Change}
+use Rattle.model.specs.Dots.{dot, changeOf}
 use Rattle.model.specs.declared.Surface.{Surface}
 use Rattle.model.specs.declared.Pen.{Pen}
 use Rattle.model.specs.declared.Source.{Source}
 use Rattle.raster.specs.declared.place.Spot.{Spot}
 use Rattle.raster.specs.Operations.{Truth, chosen}
 
--- pixel (x,y) becomes the blend of a source and of its old value
+-- the change that a dot at (x,y) makes: the pixel becomes the blend of a source and of its old value
 abbrev pub blending : Surface → Pen → Source → ℕ → ℕ → Change
-blending s pen source x y = record { x = x; y = y; new = blend (s .bits) (placeShift s x) pen source }
+blending s pen source x y = changeOf s pen (dot (at (pos x) (pos y)) source)
 
 -- the byte that holds a pixel at a place of it, the pixel's bits whose mask is 1 replaced by the truth table's entries
 unfoldable pub overlaid : ℕ → Spot → ℕ → ℕ → Truth → ℕ → ℕ

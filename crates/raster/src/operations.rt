@@ -1,8 +1,7 @@
 // The sixteen operations as a table, and bytes combined bit by bit with the machine's operations.
 ghost use mathlib.Core.Path.{_≡_};
-ghost use mathlib.Core.Bool.{cond};
 ghost use Prim.Native.Nat.{_+_, _*_, _<_, _≤_};
-ghost use Rattle.model.specs.Words.{bit, num, within};
+ghost use Rattle.model.specs.Words.{num, within};
 ghost use Rattle.raster.specs.Operations.{truthOf, muxed, chosen, field};
 
 // A truth table, each of its four bits spread over a byte: A, B, C and D of its code.

@@ -10,15 +10,15 @@ use crate::place::spot_of;
 use model::Pen;
 use model::Surface;
 ghost use mathlib.Core.Path.{_≡_};
-ghost use Rattle.model.specs.Bitmaps.{pixels};
 ghost use Prim.Native.Nat.{_+_, _<_, _≤_};
+ghost use Rattle.model.specs.Bitmaps.{pixels};
 ghost use Rattle.model.specs.Pixels.{change};
 ghost use Rattle.model.specs.declared.Source.the-variants.{Colour, Copied};
 ghost use Rattle.raster.specs.Operations.{truthOf};
 ghost use Rattle.raster.specs.Place.{Drawable};
 ghost use Rattle.raster.specs.Pixels.{overlaid, blending};
 
-// The value of a pixel.
+// The value of pixel (x,y).
 pub fn pixel(buffer: &[u8], s: Surface, x: usize, y: usize) -> u8
     requires { ⌜ Drawable s (now buffer) x y ⌝ }
     ensures { λ r. ⌜ r ≡ pixels s (now (buffer .entry)) x y ⌝ }
@@ -28,7 +28,8 @@ pub fn pixel(buffer: &[u8], s: Surface, x: usize, y: usize) -> u8
     field_of(buffer[at], place.shift, s.bits)
 }
 
-// The byte `old`, with its b bits from k on blended: the half of the mask that lies over the byte, a source byte whose bits lie where the pixel's do.
+// A byte with the pixel at a place of it blended: under the half of the mask that lies over the byte, with a source byte whose bits stand
+// where the pixel's do.
 fn blended(old: u8, place: Spot, bits: usize, mask: u16, truth: Truth, source: u8) -> u8
     requires { ⌜ (place .shift + bits ≤ 8) × (place .half < 2) ⌝ }
     ensures { λ r. ⌜ r ≡ overlaid old place bits mask truth source ⌝ }
@@ -37,8 +38,8 @@ fn blended(old: u8, place: Spot, bits: usize, mask: u16, truth: Truth, source: u
     mux(under, old, operate(truth, source, old))
 }
 
-// Pixel (x,y) blended with a colour word, which is used at the bits where the pixel lies in its word. The caller has looked up the
-// operation's truth table.
+// Pixel (x,y) blended with a colour word, which is used at the bits where the pixel lies in its word. The caller looks the operation's
+// truth table up, once for many pixels. No other bit of the buffer changes.
 pub fn blend_colour(
     buffer: &mut [u8],
     s: Surface,
@@ -57,7 +58,7 @@ pub fn blend_colour(
     buffer[at] = blended(buffer[at], place, s.bits, pen.mask, truth, source);
 }
 
-// Pixel (x,y) blended with a value that was copied from another pixel.
+// The same with a value that was copied from another pixel.
 pub fn blend_value(
     buffer: &mut [u8],
     s: Surface,

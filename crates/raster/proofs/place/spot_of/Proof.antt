@@ -1,6 +1,6 @@
 -- `spot_of` meets its contract: what it computes is the place by `spot-lies`, and every sum on the way is at most the byte's number.
 -- Assumes nothing.
-use Prim.Native.Nat.{_+_, _*_}
+use Prim.Native.Nat.{_+_}
 use native.Mathlib.Omega.{arith}
 use native.Mathlib.Nat.{mul-le-mul-left}
 use borrow.Author.Needs.{needs}

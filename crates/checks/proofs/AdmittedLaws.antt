@@ -1,0 +1,121 @@
+-- Where nothing is refused of a call on a pane, the call has all that it relies on.
+use mathlib.Core.Path.{_≡_}
+use mathlib.Core.Bool.{false, _||_}
+use mathlib.Core.List.{List}
+use Prim.Native.Nat.{ℕ, _+_, _%_, _≤_, _<_}
+use native.Mathlib.Omega.{arith}
+use lib.Dec.{ltb, leb, eqb}
+use lib.ListN.{length}
+use borrow.Author.Tests.{ltb-false, leb-false, eqb-true, eqb-false}
+use Rattle.model.specs.declared.Geometry.{Geometry}
+use Rattle.model.specs.declared.Row.{Row}
+use Rattle.model.specs.Ranges.{anyBelow, orElse}
+use Rattle.model.specs.Setup.{rowAt, geometryBad, screenBytes, rectangleBad, storeBad, sharePixel, shareByte, anyPair, checks, mostStore, paneBad}
+use Rattle.model.specs.Calls.{State, rowOf, recordOf, storeOf, setupRefusal, callRefusal}
+use Rattle.model.proofs.Decisions.{split, either-false, cond-none, cond-true, cond-false}
+use Rattle.model.proofs.SetupLaws.{any-below}
+use Rattle.model.proofs.PartLaws.{length-part}
+use Rattle.checks.specs.Sizes.{Sized}
+use Rattle.checks.specs.Admitted.{Placed, Admitted}
+use Rattle.checks.proofs.SizeLaws.{even-of, geometryBad-sized}
+use Rattle.checks.proofs.GoodLaws.{paneBad-good}
+
+-- ## One row
+
+record Rectangle (g : Geometry) (r : Row) : Type 0 where
+  wide : 0 < r .width
+  tall : 0 < r .height
+  right : r .left + r .width ≤ g .width
+  bottom : r .top + r .height ≤ g .height
+
+rectangleBad-says : (g : Geometry) (r : Row) → rectangleBad g r ≡ false → Rectangle g r
+unfolding rectangleBad
+rectangleBad-says g r h =
+    let x = ltb (g .width) (r .left + r .width) in
+    let y = ltb (g .height) (r .top + r .height) in
+    let a = either-false (eqb (r .width) 0) (eqb (r .height) 0 || (x || y)) h in
+    let b = either-false (eqb (r .height) 0) (x || y) (a .1) in
+    let c = either-false x y (b .1) in
+    let w = eqb-false (r .width) 0 (a .0) in
+    let t = eqb-false (r .height) 0 (b .0) in
+    record {
+      wide = omega arith;
+      tall = omega arith;
+      right = ltb-false (g .width) (r .left + r .width) (c .0);
+      bottom = ltb-false (g .height) (r .top + r .height) (c .1);
+    }
+
+record Store (stores : ℕ) (r : Row) : Type 0 where
+  even : r .len % 2 ≡ 0
+  most : r .len ≤ mostStore
+  room : r .start + r .len ≤ stores
+
+storeBad-says : (stores : ℕ) (r : Row) → storeBad stores r ≡ false → Store stores r
+unfolding storeBad
+storeBad-says stores r h =
+    let a = either-false (eqb (r .len % 2) 1) (ltb mostStore (r .len) || ltb stores (r .start + r .len)) h in
+    let b = either-false (ltb mostStore (r .len)) (ltb stores (r .start + r .len)) (a .1) in
+    record { even = even-of (r .len) (a .0); most = ltb-false mostStore (r .len) (b .0); room = ltb-false stores (r .start + r .len) (b .1) }
+
+-- ## All checks
+
+record Passed (g : Geometry) (n : ℕ) (rows : List Row) (screen stores : ℕ) : Type 0 where
+  sized : Sized g n
+  long : screenBytes g ≤ screen
+  rectangle : (k : ℕ) → k < n → Rectangle g (rowAt rows k)
+  store : (k : ℕ) → k < n → Store stores (rowAt rows k)
+
+checks-passed : (g : Geometry) (n : ℕ) (rows : List Row) (screen stores : ℕ) → checks g n rows screen stores ≡ 0 → Passed g n rows screen stores
+unfolding checks
+checks-passed g n rows screen stores e =
+    let p6 = cond-none (geometryBad g n) 5 _ e in
+    let p7 = cond-none (ltb screen (screenBytes g)) 6 _ (p6 .1) in
+    let p8 = cond-none (anyBelow n (λ k. rectangleBad g (rowAt rows k))) 7 _ (p7 .1) in
+    let p9 = cond-none (anyBelow n (λ k. storeBad stores (rowAt rows k))) 8 _ (p8 .1) in
+    record {
+      sized = geometryBad-sized g n (p6 .0);
+      long = ltb-false screen (screenBytes g) (p7 .0);
+      rectangle = λ k h. rectangleBad-says g (rowAt rows k) (any-below n (λ k. rectangleBad g (rowAt rows k)) k (p8 .0) h);
+      store = λ k h. storeBad-says stores (rowAt rows k) (any-below n (λ k. storeBad stores (rowAt rows k)) k (p9 .0) h);
+    }
+
+orElse-none : (n rest : ℕ) → orElse n rest ≡ 0 → (n ≡ 0) × (rest ≡ 0)
+orElse-none n rest h = split (eqb n 0)
+    (λ e. (eqb-true n 0 e, rw (cond-true rest n e) at h))
+    (λ e. absurd (eqb-false n 0 e (rw (cond-false rest n e) at h)))
+
+-- a call on a pane is not refused: nor is set-up
+pub callRefusal-setup : (s : State) (k : ℕ) → callRefusal s k ≡ 0 → setupRefusal s ≡ 0
+unfolding callRefusal
+callRefusal-setup s k h = orElse-none (setupRefusal s) _ h .0
+
+pub callRefusal-admitted : (s : State) (k : ℕ) → callRefusal s k ≡ 0 → Admitted s k
+unfolding callRefusal setupRefusal rowOf recordOf storeOf
+callRefusal-admitted s k h =
+    let a = orElse-none (setupRefusal s) _ h in
+    let b = cond-none (leb (s .console .count) k) 0 _ (a .1) in
+    let c = cond-none (paneBad (s .console .geometry) (rowOf s k) (recordOf s k)) 11 0 (b .1) in
+    let p = checks-passed _ _ _ _ _ (a .0) in
+    let l : k < s .console .count = leb-false (s .console .count) k (b .0) in
+    let q = p .rectangle k l in
+    let t = p .store k l in
+    record {
+      below = l;
+      count = p .sized .count;
+      index = omega (arith, p .sized .count);
+      room = t .room;
+      placed = record {
+        width = p .sized .width;
+        height = p .sized .height;
+        depth = p .sized .depth;
+        wide = q .wide;
+        tall = q .tall;
+        right = q .right;
+        bottom = q .bottom;
+        long = p .long;
+        part = length-part (s .stores) (rowOf s k .start) (rowOf s k .len) (t .room);
+        even = t .even;
+        most = t .most;
+      };
+      good = paneBad-good (s .console .geometry) (rowOf s k) (recordOf s k) (c .0);
+    }

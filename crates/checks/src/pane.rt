@@ -1,0 +1,56 @@
+// The check of a pane record: refusal 12.
+use crate::bitmap::clip_outside;
+use crate::bitmap::rule_broken;
+use model::Font;
+use model::Geometry;
+use model::Pane;
+use model::Progress;
+use model::Row;
+ghost use mathlib.Core.Path.{_≡_};
+ghost use Rattle.model.specs.Setup.{progressBad, baseBad, fontBad, paneBad};
+
+// Whether status and fault don't go together.
+fn progress_bad(p: Progress) -> bool
+    ensures { λ r. ⌜ r ≡ progressBad p ⌝ }
+{
+    (p.status > 3)
+        | (((p.status == 3) & ((p.fault < 20) | (p.fault > 29)))
+            | (!(p.status == 3) & !(p.fault == 0)))
+}
+
+// Whether a font base is odd or above 22 bits.
+fn base_bad(base: u32) -> bool
+    ensures { λ r. ⌜ r ≡ baseBad base ⌝ }
+{
+    (base % 2 == 1) | (base > 0x3FFFFF)
+}
+
+// Whether a font's base is odd or above 22 bits; no font has none.
+fn font_bad(f: Font) -> bool
+    ensures { λ r. ⌜ r ≡ fontBad f ⌝ }
+{
+    match f {
+        Font::Absent => false,
+        Font::Word(base) => base_bad(base),
+        Font::Byte(base) => base_bad(base),
+    }
+}
+
+// Whether a pane record is one that refusal 12 refuses, by the geometry and the pane's row.
+pub fn pane_bad(g: Geometry, r: Row, p: Pane) -> bool
+    ensures { λ res. ⌜ res ≡ paneBad g r p ⌝ }
+{
+    let progress = p.progress;
+    let bitmap = p.bitmap;
+    let clip = p.clip;
+    let pen = p.pen;
+    let text = p.text;
+    let font = text.font;
+    let returns = p.returns;
+    progress_bad(progress)
+        | (rule_broken(g, r, bitmap)
+            | (clip_outside(bitmap, clip)
+                | (font_bad(font)
+                    | ((pen.op > 15)
+                        | ((text.path > 3) | ((text.rotation > 3) | (returns.count > 8)))))))
+}

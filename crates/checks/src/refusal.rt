@@ -1,0 +1,25 @@
+// The first refusal that applies to a call on a pane: set-up's checks again, then 1 and 12.
+use crate::pane::pane_bad;
+use crate::table::refuse;
+use crate::table::setup_refusal;
+use model::Console;
+ghost use mathlib.Core.Path.{_≡_};
+ghost use Rattle.model.specs.Calls.{callRefusal};
+
+// The first refusal that applies to a call on the pane with a number, or 0.
+pub fn call_refusal(screen: &[u8], stores: &[u8], c: Console, number: u32) -> u8
+    ensures { λ r. ⌜ r ≡ callRefusal (record { console = c; screen = now (screen .entry); stores = now (stores .entry) }) number ⌝ }
+{
+    let first = setup_refusal(screen.len(), stores.len(), c);
+    if first != 0 {
+        return first;
+    }
+    if c.count <= number {
+        return 1;
+    }
+    let k = number as usize;
+    let row = c.rows[k];
+    let p = c.panes[k];
+    let g = c.geometry;
+    refuse(pane_bad(g, row, p), 12, 0)
+}

@@ -1,0 +1,140 @@
+-- The tests come in the order of the definition: pointer, end bit, opcode, parameter words. Past the first two (`fetched`) what is left is
+-- `fetch` of the opcode's shape, and the shape's number of words is the command's own (`shape-count`).
+use Prim.Native.Nat.{ℕ, _+_, _/_, _%_, _≤_}
+use native.Mathlib.Omega.{arith}
+use denote.Ref.{now}
+use mathlib.Core.List.{List}
+use mathlib.Core.Path.{_≡_, sym, _∙_}
+use lib.Dec.{eqb, ltb}
+use lib.ListN.{length}
+use borrow.Author.Needs.{needs}
+use borrow.Author.Tests.{lt-ltb, le-ltb, ltb-false}
+use Rattle.model.specs.Commands.{shapeOf, fetch, decode}
+use Rattle.model.proofs.Decisions.{either-false}
+use Rattle.decoder.proofs.ShapeLaws.{shape-count}
+use Rattle.decoder.proofs.decode.Statement.{statement}
+use Rattle.decoder.proofs.decode.Tie as tie
+
+-- past the test on the pointer
+inside : (c : tie.Else1) → c .before .before .args .pointer + 2 ≤ length (now (c .before .before .args .store))
+inside c =
+    ltb-false (length (now (c .before .before .args .store))) (c .before .before .args .pointer + 2)
+    (either-false
+    (eqb (c .before .before .args .pointer % 2) 1)
+    (ltb (length (now (c .before .before .args .store))) (c .before .before .args .pointer + 2))
+    (c .if1 .left) .1)
+
+abbrev store : tie.Else2 → List ℕ
+store c = now (c .before .before .before .before .before .args .store)
+
+abbrev pointer : tie.Else2 → ℕ
+pointer c = c .before .before .before .before .before .args .pointer
+
+-- past the tests on the pointer and the end bit
+fetched : (c : tie.Else2) →
+    decode (length (store c)) (store c) (pointer c) ≡ fetch (length (store c)) (store c) (pointer c) (shapeOf (c .before .before .word .result / 256))
+unfolding decode
+fetched c = simp (c .before .before .before .if1 .left, ← c .before .before .word .ensures, ← c .before .ends .ensures, c .if2 .left)
+
+add-if1 : tie.Need-add-if1
+add-if1 c = search needs
+
+returns : tie.Need-returns
+unfolding decode
+returns c = rw (c .if1 .taken)
+
+word-requires : tie.Need-word-requires
+word-requires c κs = let h = inside c in omega arith
+
+ends-requires : tie.Need-ends-requires
+ends-requires c κs = search needs
+
+returns-2 : tie.Need-returns-2
+unfolding decode
+returns-2 c =
+    simp (c .before .before .before .if1 .left, ← c .before .before .word .ensures, ← c .before .ends .ensures, c .if2 .taken)
+
+cast-shape : tie.Need-cast-shape
+cast-shape c = search needs
+
+shape-requires : tie.Need-shape-requires
+shape-requires c κs = search needs
+
+enum-known-op : tie.Need-enum-known-op
+enum-known-op c = search needs
+
+enum-told : tie.Need-enum-told
+enum-told c = search needs
+
+returns-3 : tie.Need-returns-3
+unfolding fetch
+returns-3 c = rw (fetched (c .before .before .before), ← c .before .before .shape .ensures, c .enum-told .given .1)
+
+add-next : tie.Need-add-next
+add-next c = search needs
+
+cast-next : tie.Need-cast-next
+cast-next c = search needs
+
+mul-next : tie.Need-mul-next
+mul-next c = search needs
+
+add-next-2 : tie.Need-add-next-2
+add-next-2 c = search needs
+
+returns-4 : tie.Need-returns-4
+unfolding fetch
+returns-4 c =
+    rw (
+      fetched (c .before .before .before .before .before),
+      ← c .before .before .before .before .shape .ensures,
+      c .before .before .op .given .1,
+      lt-ltb _ _ (c .if3 .taken),
+    )
+
+command-requires : tie.Need-command-requires
+command-requires c κs =
+    let count = shape-count
+    (c .before .before .before .before .before .before .before .word .result / 256)
+    (c .before .before .op .given .0 .0)
+    (c .before .before .op .given .0 .1 .0)
+    (omega arith)
+    (sym (c .before .before .before .before .shape .ensures) ∙ c .before .before .op .given .1) in
+    rw (← count) (omega arith)
+
+cast-t19 : tie.Need-cast-t19
+cast-t19 c = search needs
+
+returns-5 : tie.Need-returns-5
+unfolding fetch
+returns-5 c =
+    rw (
+      fetched (c .before .before .before .before .before .before),
+      ← c .before .before .before .before .before .shape .ensures,
+      c .before .before .before .op .given .1,
+      le-ltb _ _ (c .before .if3 .left),
+      c .command .ensures,
+    )
+
+pub decode-spec : {M : Type 1} → statement M
+decode-spec =
+    tie.close
+    (tie.spec
+    add-if1
+    returns
+    word-requires
+    ends-requires
+    returns-2
+    cast-shape
+    shape-requires
+    enum-known-op
+    enum-told
+    returns-3
+    add-next
+    cast-next
+    mul-next
+    add-next-2
+    returns-4
+    command-requires
+    cast-t19
+    returns-5)

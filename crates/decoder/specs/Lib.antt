@@ -1,0 +1,2 @@
+-- What the contracts of the decoder cite beside the definitions of `model`.
+pub mod Counts

@@ -1,0 +1,68 @@
+-- `rasterbench_paint` is safe and ends. The loop keeps the buffer's length, in which the surface lies. Assumes nothing.
+use mathlib.Core.Path.{_≡_, refl, _∙_}
+use Prim.Native.Nat.{_-_, _≤_}
+use native.Mathlib.Omega.{arith}
+use borrow.Author.Needs.{needs}
+use lib.ListN.{length}
+use Rattle.raster.proofs.SpotLaws.{depth-bounds}
+use Rattle.rasterbench.proofs.rasterbench_paint.Statement.{statement}
+use Rattle.rasterbench.proofs.rasterbench_paint.Tie as tie
+
+abbrev Inv-loop : tie.InvT-loop
+Inv-loop buffer₀ bits turns op mask colour s pen truth i₀ buffer i = (i ≤ turns) × (length buffer ≡ length buffer₀)
+
+abbrev μ-loop : tie.MeasureT-loop
+μ-loop buffer₀ bits turns op mask colour s pen truth i₀ buffer i = turns - i
+
+truth-of-requires : tie.Need-truth-of-requires Inv-loop μ-loop
+truth-of-requires c κs = search needs
+
+loop-holds : tie.Need-loop-holds Inv-loop μ-loop
+loop-holds c = (omega arith, refl)
+
+blend-colour-requires : tie.Need-blend-colour-requires Inv-loop μ-loop
+blend-colour-requires c κs =
+    let s = c .before .before .before .before .before in
+    let l = c .before .before .loop in (
+      record {
+        fits = record {
+          depth = s .pre .0;
+          right = omega (arith, depth-bounds (s .pre .0));
+          long = omega (arith, s .pre .1, l .inv .1);
+        };
+        small = omega arith;
+        column = omega arith;
+        row = omega arith;
+      },
+      c .before .before .before .truth-of .ensures,
+    )
+
+add-i : tie.Need-add-i Inv-loop μ-loop
+add-i c = omega arith
+
+loop-less : tie.Need-loop-less Inv-loop μ-loop
+loop-less c = omega arith
+
+loop-again : tie.Need-loop-again Inv-loop μ-loop
+loop-again c = (omega arith, c .before .before .blend-colour .kept .0 ∙ c .before .before .before .before .before .loop .inv .1)
+
+same-length : tie.Need-same-length Inv-loop μ-loop
+same-length c = c .before .loop .inv .1
+
+returns : tie.Need-returns Inv-loop μ-loop
+returns c = search needs
+
+pub rasterbench-paint-spec : {M : Type 1} → statement M
+rasterbench-paint-spec =
+    tie.close
+    (tie.spec
+    Inv-loop
+    μ-loop
+    truth-of-requires
+    loop-holds
+    blend-colour-requires
+    add-i
+    loop-less
+    loop-again
+    same-length
+    returns)
