@@ -1,0 +1,218 @@
+//! The calls on a pane and their refusals. "The first that applies is replied,
+//! alone; record and buffers keep every bit."
+
+use crate::bitmaps::Bitmap;
+use crate::pixels::{Frame, Pane};
+use crate::setup::{Console, PaneRecord, MOST_RETURNS, RUNNING};
+use crate::step::{step, Outcome};
+use crate::Refusal;
+use std::ops::Range;
+
+/// What run replies.
+#[derive(Clone, Copy, Debug, PartialEq, Eq)]
+pub struct RunReply {
+    pub commands: u32,
+    pub status: u32,
+    pub fault: u32,
+}
+
+/// What look replies.
+#[derive(Clone, Copy, Debug, PartialEq, Eq)]
+pub struct LookReply {
+    pub status: u32,
+    pub fault: u32,
+    pub pointer: u32,
+    pub x: i16,
+    pub y: i16,
+    pub pick: bool,
+    pub trap: bool,
+}
+
+/// "Every call: set-up's checks again on the record lent; 1 no such pane; 12"
+/// an unsound pane record. Answers the pane's index.
+fn enter(console: &Console, screen: &[u8], stores: &[u8], pane: u32) -> Result<usize, Refusal> {
+    console.check(screen, stores)?;
+    if pane >= console.row_count {
+        return Err(Refusal(1));
+    }
+    let index = pane as usize;
+    if !console.panes[index].is_sound(&console.rows[index], console.geometry.depth) {
+        return Err(Refusal(12));
+    }
+    Ok(index)
+}
+
+/// Where the pane's store lies in the stores buffer.
+fn store_range(console: &Console, index: usize) -> Range<usize> {
+    let row = &console.rows[index];
+    let start = row.store_start as usize;
+    start..start + row.store_length as usize
+}
+
+/// "Each call hands on only the named pane's part" of the stores.
+pub fn lend<'a>(
+    console: &'a mut Console,
+    screen: &'a mut [u8],
+    stores: &'a mut [u8],
+    index: usize,
+) -> Pane<'a> {
+    let range = store_range(console, index);
+    Pane {
+        frame: Frame {
+            geometry: console.geometry,
+            row: console.rows[index],
+        },
+        record: &mut console.panes[index],
+        screen,
+        store: &mut stores[range],
+    }
+}
+
+/// "Put (address, bytes): 2 if they pass the store's end; nothing at the very
+/// end is accepted; else they stand in the store from the address on, all else
+/// kept."
+pub fn put(
+    console: &Console,
+    screen: &[u8],
+    stores: &mut [u8],
+    pane: u32,
+    address: u32,
+    bytes: &[u8],
+) -> Result<(), Refusal> {
+    let index = enter(console, screen, stores, pane)?;
+    let store = &mut stores[store_range(console, index)];
+    if u64::from(address) + bytes.len() as u64 > store.len() as u64 {
+        return Err(Refusal(2));
+    }
+    let start = address as usize;
+    store[start..start + bytes.len()].copy_from_slice(bytes);
+    Ok(())
+}
+
+/// "Start (address): 3 odd, 2 not below the length; else pointer at the
+/// address, status 1, fault 0, no return addresses, the rest kept."
+pub fn start(
+    console: &mut Console,
+    screen: &[u8],
+    stores: &[u8],
+    pane: u32,
+    address: u32,
+) -> Result<(), Refusal> {
+    let index = enter(console, screen, stores, pane)?;
+    if address % 2 == 1 {
+        return Err(Refusal(3));
+    }
+    if address >= console.rows[index].store_length {
+        return Err(Refusal(2));
+    }
+    let record = &mut console.panes[index];
+    record.pointer = address;
+    record.status = RUNNING;
+    record.fault = 0;
+    record.return_count = 0;
+    record.returns = [0; MOST_RETURNS as usize];
+    Ok(())
+}
+
+/// "Run (budget, 32 bits): 4 status isn't 1; else commands done, status,
+/// fault." "While status is 1 and budget is left" one command after another is
+/// done. "A spent budget leaves status 1, even before an end word."
+pub fn run(
+    console: &mut Console,
+    screen: &mut [u8],
+    stores: &mut [u8],
+    pane: u32,
+    budget: u32,
+) -> Result<RunReply, Refusal> {
+    let index = enter(console, screen, stores, pane)?;
+    if console.panes[index].status != RUNNING {
+        return Err(Refusal(4));
+    }
+    let mut lent = lend(console, screen, stores, index);
+    let mut commands = 0;
+    while lent.record.status == RUNNING && commands < budget {
+        if let Outcome::Done(_) = step(&mut lent) {
+            commands += 1;
+        }
+    }
+    Ok(RunReply {
+        commands,
+        status: lent.record.status,
+        fault: lent.record.fault,
+    })
+}
+
+/// "Look: none of its own; status, fault, pointer, position, pick and trap
+/// flag."
+pub fn look(
+    console: &Console,
+    screen: &[u8],
+    stores: &[u8],
+    pane: u32,
+) -> Result<LookReply, Refusal> {
+    let index = enter(console, screen, stores, pane)?;
+    let record = &console.panes[index];
+    Ok(LookReply {
+        status: record.status,
+        fault: record.fault,
+        pointer: record.pointer,
+        x: record.x,
+        y: record.y,
+        pick: record.pick_flag,
+        trap: record.trap_flag,
+    })
+}
+
+/// "Pixel (x,y from the pane's corner): 5 outside the pane; else its value."
+pub fn pixel(
+    console: &Console,
+    screen: &[u8],
+    stores: &[u8],
+    pane: u32,
+    x: u32,
+    y: u32,
+) -> Result<u16, Refusal> {
+    let index = enter(console, screen, stores, pane)?;
+    let row = console.rows[index];
+    if x >= row.width || y >= row.height {
+        return Err(Refusal(5));
+    }
+    // The pane as a bitmap; its width and height are at most 4,096.
+    let bitmap = Bitmap::Pane {
+        xmax: (row.width - 1) as u16,
+        ymax: (row.height - 1) as u16,
+        bits: console.geometry.depth as u16,
+    };
+    let frame = Frame {
+        geometry: console.geometry,
+        row,
+    };
+    frame
+        .pixel(screen, &[], &bitmap, i64::from(x), i64::from(y))
+        .ok_or(Refusal(5))
+}
+
+/// "Peek (address): 2 not below the length; else the byte."
+pub fn peek(
+    console: &Console,
+    screen: &[u8],
+    stores: &[u8],
+    pane: u32,
+    address: u32,
+) -> Result<u8, Refusal> {
+    let index = enter(console, screen, stores, pane)?;
+    let store = &stores[store_range(console, index)];
+    store.get(address as usize).copied().ok_or(Refusal(2))
+}
+
+/// "Clear: none; fresh pane record, store and pixels kept."
+pub fn clear(
+    console: &mut Console,
+    screen: &[u8],
+    stores: &[u8],
+    pane: u32,
+) -> Result<(), Refusal> {
+    let index = enter(console, screen, stores, pane)?;
+    console.panes[index] = PaneRecord::fresh();
+    Ok(())
+}

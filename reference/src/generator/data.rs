@@ -1,0 +1,239 @@
+//! What a pane's store holds besides lists: a font, strings, arrays, bitmaps.
+
+use super::dice::Dice;
+use crate::words::bytes_in_rows;
+
+/// A stretch of the store with so many characters, pairs or triples. For a
+/// string, `offset` is where the offset word of its first character stands and
+/// `last_row` where the last word of that character's glyph does.
+#[derive(Clone, Copy)]
+pub struct Stretch {
+    pub address: u32,
+    pub count: u16,
+    pub offset: u32,
+    pub last_row: u32,
+}
+
+/// A glyph: its selector and the address of its last word.
+#[derive(Clone, Copy)]
+struct Glyph {
+    selector: u16,
+    last_row: u32,
+}
+
+/// A bitmap in the store.
+#[derive(Clone, Copy, PartialEq)]
+pub struct Spot {
+    pub address: u32,
+    pub xmax: u16,
+    pub ymax: u16,
+    pub bits: u16,
+}
+
+impl Spot {
+    /// How many bytes it takes.
+    pub fn length(&self) -> u32 {
+        bytes_in_rows(
+            u64::from(self.xmax) + 1,
+            u64::from(self.ymax) + 1,
+            u64::from(self.bits),
+        ) as u32
+    }
+
+    /// The address after it.
+    pub fn end(&self) -> u32 {
+        self.address + self.length()
+    }
+}
+
+/// The data of one store. The bytes are put from address `start` on.
+pub struct Data {
+    pub start: u32,
+    pub bytes: Vec<u8>,
+    pub font_base: u32,
+    pub word_strings: Vec<Stretch>,
+    pub byte_strings: Vec<Stretch>,
+    pub bad_word_strings: Vec<Stretch>,
+    pub bad_byte_strings: Vec<Stretch>,
+    pub pairs: Vec<Stretch>,
+    pub triples: Vec<Stretch>,
+}
+
+impl Data {
+    /// Makes the data for a pane of this size.
+    pub fn make(dice: &mut Dice, start: u32, width: i64, height: i64) -> Data {
+        let mut data = Data {
+            start,
+            bytes: Vec::new(),
+            font_base: start,
+            word_strings: Vec::new(),
+            byte_strings: Vec::new(),
+            bad_word_strings: Vec::new(),
+            bad_byte_strings: Vec::new(),
+            pairs: Vec::new(),
+            triples: Vec::new(),
+        };
+        let glyphs = data.add_font(dice);
+        data.add_strings(dice, &glyphs);
+        for _ in 0..dice.between(1, 2) {
+            let pairs = data.add_array(dice, 2, width, height);
+            data.pairs.push(pairs);
+            let triples = data.add_array(dice, 3, width, height);
+            data.triples.push(triples);
+        }
+        data.even();
+        data
+    }
+
+    fn here(&self) -> u32 {
+        self.start + self.bytes.len() as u32
+    }
+
+    fn add_word(&mut self, word: u16) {
+        self.bytes.extend(word.to_le_bytes());
+    }
+
+    fn even(&mut self) {
+        if self.bytes.len() % 2 == 1 {
+            self.bytes.push(0);
+        }
+    }
+
+    /// The offset table at the font's base, its last word a bad one, and then
+    /// the glyphs.
+    fn add_font(&mut self, dice: &mut Dice) -> Vec<Glyph> {
+        let count = dice.between(2, 4) as u16;
+        let mut glyphs: Vec<Vec<u16>> = Vec::new();
+        for _ in 0..count {
+            let large = dice.chance(4);
+            let width = if large {
+                dice.between(9, 16)
+            } else {
+                dice.between(1, 7)
+            } as u16;
+            let height = if large {
+                dice.between(6, 16)
+            } else {
+                dice.between(1, 5)
+            } as u16;
+            let mut first = (height - 1) << 8 | (width - 1);
+            if dice.chance(12) {
+                first |= 0x8000;
+            }
+            if dice.chance(15) {
+                first |= 0x4000;
+            }
+            if dice.chance(30) {
+                first |= dice.word() & 0x30F0;
+            }
+            let mut words = vec![first];
+            for _ in 0..height {
+                let row = dice.word();
+                let ignored = if dice.chance(40) {
+                    0xFFFF
+                } else {
+                    0xFFFF >> (16 - width)
+                };
+                words.push(row & ignored);
+            }
+            glyphs.push(words);
+        }
+        let mut found = Vec::new();
+        let mut offset = count + 1;
+        for glyph in &glyphs {
+            let selector = offset;
+            offset += glyph.len() as u16;
+            let last_row = self.font_base + 2 * u32::from(offset) - 2;
+            found.push(Glyph { selector, last_row });
+            self.add_word(selector);
+        }
+        self.add_word(dice.pick(&[0xFFFF, 0x7FFF, 0x8000, 0x4000]));
+        for word in glyphs.concat() {
+            self.add_word(word);
+        }
+        found
+    }
+
+    /// Strings of words and of bytes, good and bad. A bad one has good
+    /// characters before the bad one.
+    fn add_strings(&mut self, dice: &mut Dice, glyphs: &[Glyph]) {
+        for round in 0..3 {
+            let bad = round == 2;
+            self.even();
+            let address = self.here();
+            let count = dice.between(1, 3) as u16;
+            let first = dice.pick(glyphs);
+            self.add_word(first.selector);
+            for _ in 1..count {
+                self.add_word(dice.pick(glyphs).selector);
+            }
+            let mut string = Stretch {
+                address,
+                count,
+                offset: address,
+                last_row: first.last_row,
+            };
+            if bad {
+                self.add_word(dice.pick(&[0xFFFF, 0x7FFF, 0x2000]));
+                string.count += 1;
+                self.bad_word_strings.push(string);
+            } else {
+                self.word_strings.push(string);
+            }
+        }
+        for round in 0..3 {
+            let bad = round == 2;
+            if dice.chance(50) {
+                self.bytes.push(dice.next() as u8);
+            }
+            let address = self.here();
+            let count = dice.between(1, 3) as u16;
+            let last_code = glyphs.len() as i64 - 1;
+            let first = dice.between(0, last_code);
+            self.bytes.push(first as u8);
+            for _ in 1..count {
+                self.bytes.push(dice.between(0, last_code) as u8);
+            }
+            let mut string = Stretch {
+                address,
+                count,
+                offset: self.font_base + 2 * first as u32,
+                last_row: glyphs[first as usize].last_row,
+            };
+            if bad {
+                // The bad offset word, or an offset word far away.
+                self.bytes
+                    .push(dice.pick(&[glyphs.len() as u8, glyphs.len() as u8, 255]));
+                string.count += 1;
+                self.bad_byte_strings.push(string);
+            } else {
+                self.byte_strings.push(string);
+            }
+        }
+        self.even();
+    }
+
+    /// An array of pairs or triples of offsets, mostly small.
+    fn add_array(&mut self, dice: &mut Dice, group: usize, width: i64, height: i64) -> Stretch {
+        let address = self.here();
+        let count = dice.between(1, 4) as u16;
+        for _ in 0..count {
+            for part in 0..group {
+                let size = if part == 1 { height } else { width };
+                let value = match dice.weighted(&[80, 14, 4, 2]) {
+                    0 => dice.between(-size / 2, size / 2),
+                    1 => dice.between(-size, size),
+                    2 => dice.between(-300, 300),
+                    _ => dice.pick(&[-32768, 32767, -32767, 20000]),
+                };
+                self.add_word(value as u16);
+            }
+        }
+        Stretch {
+            address,
+            count,
+            offset: 0,
+            last_row: 0,
+        }
+    }
+}

@@ -1,0 +1,13 @@
+//! Random scripts to compare two consoles with, and a count of what they do.
+//!
+//! This is no part of the paper. A script is decided by its seed alone. Most
+//! commands of most scripts are done; faults, refusals and malformed lines are
+//! the seasoning.
+
+mod data;
+mod dice;
+mod lists;
+mod scripts;
+pub mod stats;
+
+pub use scripts::script;

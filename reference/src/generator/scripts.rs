@@ -1,0 +1,595 @@
+//! Whole scripts.
+
+use super::dice::Dice;
+use super::lists::{Ending, List, Plan};
+use crate::script::LONGEST_SCRIPT;
+use std::fmt::Write;
+
+/// The random script of a seed, at most 8,192 bytes long.
+pub fn script(seed: u64) -> Vec<u8> {
+    let mut dice = Dice::new(seed);
+    let mut lines = match dice.weighted(&[94, 5, 1]) {
+        0 => usual(&mut dice),
+        1 => refused(&mut dice),
+        _ => nonsense(&mut dice),
+    };
+    let mut text = String::new();
+    for line in lines.drain(..) {
+        if text.len() + line.len() + 1 > LONGEST_SCRIPT {
+            break;
+        }
+        text.push_str(&line);
+        text.push('\n');
+    }
+    if dice.chance(5) {
+        text.pop();
+    }
+    text.into_bytes()
+}
+
+/// A pane's rectangle on the screen.
+#[derive(Clone, Copy)]
+struct Place {
+    left: i64,
+    top: i64,
+    width: i64,
+    height: i64,
+}
+
+/// Panes beside or below one another, mostly without a gap, so that they share
+/// bytes of the screen.
+fn places(dice: &mut Dice, count: usize) -> Vec<Place> {
+    let (most_width, most_height) = match count {
+        1 => (24, 16),
+        2 => (17, 11),
+        _ => (13, 9),
+    };
+    let beside = dice.chance(75);
+    let (mut left, mut top) = (dice.between(0, 9), dice.between(0, 2));
+    let mut places = Vec::new();
+    for _ in 0..count {
+        let small = dice.chance(15);
+        let width = dice.between(if small { 1 } else { most_width / 2 }, most_width);
+        let height = dice.between(if small { 1 } else { most_height / 2 }, most_height);
+        places.push(Place {
+            left,
+            top,
+            width,
+            height,
+        });
+        let gap = if dice.chance(80) {
+            0
+        } else {
+            dice.between(1, 3)
+        };
+        if beside {
+            left += width + gap;
+            top = dice.between(0, 2);
+        } else {
+            top += height + gap;
+            left = dice.between(0, 9);
+        }
+    }
+    places
+}
+
+/// Lines that read pixels of a pane: all of them if they fit into so many
+/// bytes, else some.
+fn readings(dice: &mut Dice, number: u32, place: Place, room: usize) -> Vec<String> {
+    let mut all = Vec::new();
+    for y in 0..place.height {
+        for x in 0..place.width {
+            all.push(format!("x,{number},{x},{y}"));
+        }
+    }
+    let needed: usize = all.iter().map(|line| line.len() + 1).sum();
+    if needed <= room {
+        return all;
+    }
+    let percent = (room * 100 / needed) as i64;
+    all.retain(|_| dice.chance(percent));
+    all
+}
+
+/// A put of words.
+fn put_words(number: u32, address: u32, words: &[u16]) -> String {
+    let bytes: Vec<u8> = words.iter().flat_map(|word| word.to_le_bytes()).collect();
+    put_bytes(number, address, &bytes)
+}
+
+fn put_bytes(number: u32, address: u32, bytes: &[u8]) -> String {
+    let mut line = format!("w,{number},{address:x},");
+    for byte in bytes {
+        let _ = write!(line, "{byte:02x}");
+    }
+    line
+}
+
+/// Start a list and run it, whole or in portions.
+fn run_lines(dice: &mut Dice, number: u32, list: &List, ending: Ending) -> Vec<String> {
+    let mut lines = vec![format!("g,{number},{:x}", list.start)];
+    let whole = i64::from(list.commands) * 3 + 40;
+    match dice.weighted(&[55, 30, 9, 6]) {
+        0 => {}
+        1 => {
+            for _ in 0..dice.between(1, 2) {
+                let part = dice.between(0, i64::from(list.commands));
+                lines.push(format!("r,{number},{part}"));
+                if dice.chance(40) {
+                    lines.push(format!("l,{number}"));
+                }
+            }
+        }
+        2 => {
+            // Up to the end word or near it; the rest is left.
+            let part = (i64::from(list.commands) + dice.between(-1, 1)).max(0);
+            lines.push(format!("r,{number},{part}"));
+            lines.push(format!("l,{number}"));
+            return lines;
+        }
+        _ => {
+            let part = dice.between(0, i64::from(list.commands));
+            lines.push(format!("r,{number},{part}"));
+            lines.push(format!("l,{number}"));
+            return lines;
+        }
+    }
+    let budget = if ending == Ending::Loop {
+        dice.between(20, 150)
+    } else {
+        whole
+    };
+    lines.push(format!("r,{number},{budget}"));
+    if dice.chance(85) || ending == Ending::Pick {
+        lines.push(format!("l,{number}"));
+    }
+    lines
+}
+
+/// The bytes that lines take.
+fn size(lines: &[String]) -> usize {
+    lines.iter().map(|line| line.len() + 1).sum()
+}
+
+/// The lines of one pane in groups that stay together: data first, then list
+/// after list, within so many bytes of script.
+fn pane_groups(dice: &mut Dice, plan: &mut Plan, mut room: usize) -> Vec<Vec<String>> {
+    let number = plan.number;
+    let mut groups = Vec::new();
+    let take = |groups: &mut Vec<Vec<String>>, lines: Vec<String>, room: &mut usize| {
+        *room = room.saturating_sub(size(&lines));
+        groups.push(lines);
+    };
+    let mut data = vec![put_bytes(number, plan.data.start, &plan.data.bytes)];
+    if let Some(word) = plan.last_word {
+        data.push(put_words(number, plan.store_length - 2, &[word]));
+    }
+    for spot in plan.bitmaps.clone() {
+        if spot.length() <= 64 && dice.chance(70) {
+            let bytes: Vec<u8> = (0..spot.length()).map(|_| dice.next() as u8).collect();
+            data.push(put_bytes(number, spot.address, &bytes));
+        }
+    }
+    take(&mut groups, data, &mut room);
+    if dice.chance(75) {
+        let routines = plan.write_routines(dice);
+        take(
+            &mut groups,
+            vec![put_words(number, routines.start, &routines.words)],
+            &mut room,
+        );
+    }
+    for (percent, fault) in [(22, 23), (22, 28)] {
+        if dice.chance(percent) {
+            let list = plan.write_early_fault(dice, fault);
+            let mut lines = vec![put_words(number, list.start, &list.words)];
+            lines.push(format!("g,{number},{:x}", list.start));
+            lines.push(format!("r,{number},9"));
+            lines.push(format!("l,{number}"));
+            take(&mut groups, lines, &mut room);
+        }
+    }
+    while room > 330 && plan.words_left() > 60 {
+        let most = ((room - 60) / 4).min(dice.between(50, 190) as usize);
+        let ending = match dice.weighted(&[42, 36, 8, 4, 10]) {
+            0 => Ending::End,
+            1 => Ending::Fault(dice.pick(&[20, 21, 21, 22, 22, 24, 25, 25, 25, 26, 27, 29, 29])),
+            2 => Ending::Loop,
+            3 => Ending::DrawnOver,
+            _ => Ending::Pick,
+        };
+        let list = plan.write_list(dice, most, ending);
+        let mut lines = vec![put_words(number, list.start, &list.words)];
+        lines.extend(run_lines(dice, number, &list, ending));
+        take(&mut groups, lines, &mut room);
+    }
+    groups
+}
+
+/// A script that runs: set-up, lists on each pane in turn, then the pixels, and
+/// then the store shown on the pane and its pixels.
+fn usual(dice: &mut Dice) -> Vec<String> {
+    let depth = dice.pick(&[1u16, 2, 4, 8]);
+    let count = 1 + dice.weighted(&[40, 35, 25]);
+    let places = places(dice, count);
+    let width = places
+        .iter()
+        .map(|place| place.left + place.width)
+        .max()
+        .unwrap_or(1);
+    let height = places
+        .iter()
+        .map(|place| place.top + place.height)
+        .max()
+        .unwrap_or(1);
+    let (width, height) = (width + dice.between(0, 4), height + dice.between(0, 2));
+    let share = 5600 / count as i64;
+    let mut lengths: Vec<i64> = places
+        .iter()
+        .map(|_| dice.between(share / 4 + 250, share / 3 + 400) * 2)
+        .collect();
+    match dice.weighted(&[92, 4, 4]) {
+        0 => {}
+        // Stores that take all there is.
+        1 => lengths[0] = 16384 - lengths[1..].iter().sum::<i64>(),
+        _ => lengths[0] = dice.between(200, 350) * 2,
+    }
+    let mut plans: Vec<Plan> = Vec::new();
+    for (number, (place, length)) in places.iter().zip(&lengths).enumerate() {
+        let plan = Plan::new(
+            dice,
+            number as u32,
+            place.width,
+            place.height,
+            depth,
+            *length as u32,
+        );
+        plans.push(plan);
+    }
+
+    // Room for the readings at the end, the rest for the lists.
+    let all: usize = places
+        .iter()
+        .map(|place| (place.width * place.height * 10) as usize)
+        .sum();
+    let first_reading = all.min(3300);
+    let second_reading = if dice.chance(75) { all.min(1500) } else { 0 };
+    let room = LONGEST_SCRIPT - 300 - first_reading - second_reading - 260 * count;
+
+    let mut queues: Vec<Vec<Vec<String>>> = Vec::new();
+    for plan in &mut plans {
+        // Each pane keeps some words for the list that shows its store.
+        plan.end = plan.end.saturating_sub(140);
+        let mut groups = pane_groups(dice, plan, room / count);
+        plan.end += 140;
+        groups.reverse();
+        queues.push(groups);
+    }
+    let mut body: Vec<String> = Vec::new();
+    while let Some(index) = next_queue(dice, &queues) {
+        body.extend(queues[index].pop().unwrap_or_default());
+    }
+    season(dice, &mut body, count as i64);
+
+    // Now and then more panes, of one pixel each and without a store.
+    let (mut rows, mut row_lengths, mut screen_width) = (places.clone(), lengths.clone(), width);
+    if dice.chance(6) {
+        for _ in 0..dice.between(1, 8 - count as i64) {
+            rows.push(Place {
+                left: screen_width,
+                top: 0,
+                width: 1,
+                height: 1,
+            });
+            row_lengths.push(0);
+            screen_width += 1;
+            let number = rows.len() - 1;
+            body.push(
+                dice.pick(&["l,#", "x,#,0,0", "x,#,1,0", "g,#,0", "w,#,0,"])
+                    .replace('#', &number.to_string()),
+            );
+        }
+    }
+
+    let mut lines = set_up_lines(dice, screen_width, height, depth, &rows, &row_lengths);
+    lines.extend(body);
+    for (plan, place) in plans.iter().zip(&places) {
+        lines.push(format!("l,{}", plan.number));
+        lines.extend(readings(dice, plan.number, *place, first_reading / count));
+    }
+    if second_reading > 0 {
+        for (plan, place) in plans.iter_mut().zip(&places) {
+            let number = plan.number;
+            let list = plan.write_show(dice);
+            lines.push(put_words(number, list.start, &list.words));
+            lines.push(format!("g,{number},{:x}", list.start));
+            lines.push(format!("r,{number},99"));
+            lines.push(format!("l,{number}"));
+            let left = LONGEST_SCRIPT.saturating_sub(size(&lines) + 10);
+            let later = plans_left(number, count);
+            lines.extend(readings(dice, number, *place, left / later));
+        }
+    }
+    lines
+}
+
+/// How many panes from this one on are still to be shown.
+fn plans_left(number: u32, count: usize) -> usize {
+    (count - number as usize).max(1)
+}
+
+/// The index of a queue that is not empty.
+fn next_queue(dice: &mut Dice, queues: &[Vec<Vec<String>>]) -> Option<usize> {
+    let full: Vec<usize> = (0..queues.len())
+        .filter(|index| !queues[*index].is_empty())
+        .collect();
+    if full.is_empty() {
+        None
+    } else {
+        Some(dice.pick(&full))
+    }
+}
+
+/// `s`, `p` and `o`, sometimes with lines among them that are not taken.
+fn set_up_lines(
+    dice: &mut Dice,
+    width: i64,
+    height: i64,
+    depth: u16,
+    places: &[Place],
+    lengths: &[i64],
+) -> Vec<String> {
+    let screen = format!("s,{width},{height},{depth}");
+    let mut lines = Vec::new();
+    let late_screen = dice.chance(8);
+    if dice.chance(5) {
+        lines.push(
+            dice.pick(&["s,4096,9,8", "s,4097,8,8", "s,65536,65536,1", "s,0,1,", "o"])
+                .to_string(),
+        );
+    }
+    if !late_screen {
+        lines.push(screen.clone());
+    }
+    if dice.chance(8) && !late_screen {
+        // No rows yet: refusal 6.
+        lines.push("o".to_string());
+    }
+    for (place, length) in places.iter().zip(lengths) {
+        if dice.chance(4) {
+            lines.push(strange_line(dice));
+        }
+        let Place {
+            left,
+            top,
+            width,
+            height,
+        } = place;
+        lines.push(format!("p,{left},{top},{width},{height},{length}"));
+    }
+    if late_screen {
+        lines.push("l,0".to_string());
+        lines.push(screen.clone());
+    }
+    if dice.chance(6) {
+        lines.push(
+            dice.pick(&[
+                "p,0,0,1,1,16385",
+                "s,8,8,1",
+                "g,0,0",
+                "p,1,1,1,1,-2",
+                "x,0,0,0",
+            ])
+            .to_string(),
+        );
+    }
+    lines.push("o".to_string());
+    if dice.chance(6) {
+        lines.push(dice.pick(&["o", "s,8,8,1", "p,0,0,1,1,0"]).to_string());
+    }
+    lines
+}
+
+/// Adds calls that are refused and lines that are no lines.
+fn season(dice: &mut Dice, body: &mut Vec<String>, count: i64) {
+    for _ in 0..dice.weighted(&[30, 30, 20, 12, 8]) {
+        let pane = dice.between(0, count - 1);
+        let line = match dice.weighted(&[12, 12, 12, 8, 12, 10, 12, 12, 10, 20]) {
+            0 => {
+                let other = dice.pick(&[count, count + 1, 7, 8, 255, 4294967295]);
+                dice.pick(&[
+                    "l,#", "r,#,5", "g,#,0", "g,#,1", "x,#,0,0", "w,#,0,00", "w,#,0,",
+                ])
+                .replace('#', &other.to_string())
+            }
+            1 => format!("g,{pane},{:x}", dice.between(0, 200) * 2 + 1),
+            2 => format!(
+                "g,{pane},{:x}",
+                dice.pick(&[0x4000, 0xFFFE, 0xFFFF_FFFEu32])
+            ),
+            3 => format!(
+                "w,{pane},{:x},{}",
+                dice.pick(&[0x4000, 0xFFFF, 0xFFFF_FFFFu32]),
+                dice.pick(&["", "00", "abcd"])
+            ),
+            4 => format!("r,{pane},{}", dice.between(0, 9)),
+            5 => format!(
+                "x,{pane},{},{}",
+                dice.pick(&[24, 30, 4096, 65536, 4294967295u32]),
+                dice.between(0, 3)
+            ),
+            6 => format!(
+                "x,{pane},{},{}",
+                dice.between(0, 3),
+                dice.pick(&[16, 17, 4096, 4294967295u32])
+            ),
+            7 => format!("l,{pane}"),
+            8 => dice.pick(&["o", "s,8,8,1", "p,0,0,1,1,0"]).to_string(),
+            _ => {
+                if dice.chance(50) || body.is_empty() {
+                    strange_line(dice)
+                } else {
+                    let index = dice.between(0, body.len() as i64 - 1) as usize;
+                    bent_line(dice, &body[index].clone())
+                }
+            }
+        };
+        let index = dice.between(0, body.len() as i64) as usize;
+        body.insert(index, line);
+    }
+}
+
+/// A line that is malformed.
+fn strange_line(dice: &mut Dice) -> String {
+    dice.pick(&[
+        "",
+        ",",
+        "?",
+        "o,",
+        "l",
+        "l,",
+        "l,0,0",
+        "l,+0",
+        "l, 0",
+        "l,00000000000000000000000000x",
+        "r,0",
+        "r,0,4294967296",
+        "r,0,-1",
+        "r,0,f",
+        "g,0",
+        "g,0,g",
+        "g,0,100000000",
+        "g,,0",
+        "x,0,1",
+        "x,0,1,1,1",
+        "x,0,0x1,1",
+        "w,0,0",
+        "w,0,0,0",
+        "w,0,0,0g",
+        "w,0,,00",
+        "w,0,0,00,",
+        "L,0",
+        "k,0",
+        "s,8,8",
+        "p,0,0,1,1",
+        "l,0\r",
+        "# a remark",
+        "x;0;0;0",
+        "\u{e9}",
+        "w,0,0,003d 0100",
+    ])
+    .to_string()
+}
+
+/// A line with one letter changed, lost or doubled.
+fn bent_line(dice: &mut Dice, line: &str) -> String {
+    let mut letters: Vec<char> = line.chars().take(40).collect();
+    if letters.is_empty() {
+        return ",".to_string();
+    }
+    let index = dice.between(0, letters.len() as i64 - 1) as usize;
+    match dice.between(0, 2) {
+        0 => letters[index] = dice.pick(&[',', '0', 'f', 'F', '-', ' ', 'z', 'x', '9']),
+        1 => {
+            letters.remove(index);
+        }
+        _ => letters.insert(index, letters[index]),
+    }
+    letters.into_iter().collect()
+}
+
+/// A script whose set-up is refused, with some calls after it.
+fn refused(dice: &mut Dice) -> Vec<String> {
+    let mut lines = Vec::new();
+    match dice.weighted(&[25, 25, 25, 25]) {
+        0 => {
+            let screen = dice.pick(&[
+                "s,0,5,1",
+                "s,5,0,8",
+                "s,4097,1,8",
+                "s,1,4097,1",
+                "s,8,8,3",
+                "s,8,8,0",
+                "s,100,100,16",
+            ]);
+            lines.push(screen.to_string());
+            lines.push("p,0,0,4,4,64".to_string());
+        }
+        1 => {
+            lines.push("s,20,10,4".to_string());
+            lines.push("p,0,0,4,4,64".to_string());
+            let row = dice.pick(&[
+                "p,4,0,17,4,64",
+                "p,4,0,4,11,63",
+                "p,4,0,0,4,2",
+                "p,4,4,4,0,3",
+                "p,4294967295,0,1,1,2",
+                "p,20,0,1,1,2",
+            ]);
+            lines.push(row.to_string());
+        }
+        2 => {
+            lines.push("s,20,10,2".to_string());
+            lines.push("p,0,0,4,4,64".to_string());
+            lines.push(
+                dice.pick(&["p,4,0,4,4,63", "p,3,3,4,4,1", "p,4,4,4,4,16319"])
+                    .to_string(),
+            );
+        }
+        _ => {
+            lines.push("s,20,10,8".to_string());
+            lines.push("p,4,4,5,3,64".to_string());
+            let row = dice.pick(&[
+                "p,8,6,4,4,64",
+                "p,0,0,5,5,2",
+                "p,5,5,1,1,0",
+                "p,4,4,5,3,8",
+                "p,0,0,20,10,0",
+            ]);
+            lines.push(row.to_string());
+        }
+    }
+    lines.push("o".to_string());
+    for _ in 0..dice.between(1, 4) {
+        let line = dice.pick(&[
+            "l,0",
+            "g,0,0",
+            "r,0,1",
+            "x,0,0,0",
+            "w,0,0,0001",
+            "o",
+            "s,20,10,4",
+            "p,19,9,1,1,2",
+        ]);
+        lines.push(line.to_string());
+    }
+    lines.push("o".to_string());
+    lines
+}
+
+/// Lines without sense.
+fn nonsense(dice: &mut Dice) -> Vec<String> {
+    let mut lines = Vec::new();
+    for _ in 0..dice.between(0, 12) {
+        let line = if dice.chance(60) {
+            strange_line(dice)
+        } else {
+            let good = dice.pick(&[
+                "s,8,8,1",
+                "p,0,0,8,8,64",
+                "o",
+                "l,0",
+                "w,0,0,01005401",
+                "g,0,0",
+                "r,0,9",
+            ]);
+            if dice.chance(40) {
+                bent_line(dice, good)
+            } else {
+                good.to_string()
+            }
+        };
+        lines.push(line);
+    }
+    lines
+}

@@ -1,0 +1,205 @@
+//! What random scripts do: how often each command is done, each fault and each
+//! refusal comes.
+
+use super::script;
+use crate::bitmaps::{Bitmap, PANE_ADDRESS};
+use crate::calls::lend;
+use crate::decode::Command;
+use crate::script::{decimal, lines_of, Session};
+use crate::setup::RUNNING;
+use crate::step::{step, Outcome};
+use std::collections::BTreeMap;
+
+/// Counts over many scripts.
+#[derive(Default)]
+pub struct Stats {
+    pub scripts: u64,
+    pub bytes: u64,
+    pub lines: u64,
+    pub malformed: u64,
+    /// Commands done by name, and how many of them changed a pixel or the pick
+    /// flag.
+    pub commands: BTreeMap<String, (u64, u64)>,
+    pub faults: BTreeMap<u32, u64>,
+    /// Faults by the command's opcode byte.
+    pub fault_opcodes: BTreeMap<(u32, u8), u64>,
+    pub refusals: BTreeMap<(char, u32), u64>,
+    pub pixels: u64,
+    pub pixels_not_zero: u64,
+    pub depths: BTreeMap<u32, u64>,
+    pub panes: BTreeMap<usize, u64>,
+    pub picked: u64,
+    pub trapped: u64,
+    pub ended: u64,
+    /// Commands done in a script, most first.
+    pub most_commands: u64,
+    pub scripts_with_few: u64,
+}
+
+impl Stats {
+    /// Runs the scripts of so many seeds, from 1 on.
+    pub fn of(count: u64) -> Stats {
+        let mut stats = Stats::default();
+        for seed in 1..=count {
+            stats.add(&script(seed));
+        }
+        stats
+    }
+
+    fn add(&mut self, text: &[u8]) {
+        self.scripts += 1;
+        self.bytes += text.len() as u64;
+        let mut session = Session::default();
+        let mut done = 0;
+        for line in lines_of(text) {
+            self.lines += 1;
+            done += self.watch_run(&session, line);
+            let Some(reply) = session.line(line) else {
+                self.malformed += 1;
+                continue;
+            };
+            let fields: Vec<&str> = reply.split(',').collect();
+            let letter = reply.chars().next().unwrap_or(' ');
+            let number = fields
+                .get(1)
+                .and_then(|field| field.parse().ok())
+                .unwrap_or(0);
+            *self.refusals.entry((letter, number)).or_default() += 1;
+            if letter == 'x' && number == 0 {
+                self.pixels += 1;
+                self.pixels_not_zero += u64::from(fields.last() != Some(&"0"));
+            }
+            if letter == 'l' && number == 0 {
+                self.picked += u64::from(fields[7] == "1");
+                self.trapped += u64::from(fields[8] == "1");
+            }
+        }
+        self.most_commands = self.most_commands.max(done);
+        self.scripts_with_few += u64::from(done < 20);
+        if let Some(console) = &session.console {
+            *self.depths.entry(console.geometry.depth).or_default() += 1;
+            *self.panes.entry(session.rows.len()).or_default() += 1;
+        }
+    }
+
+    /// If the line is a run, does it on a copy and counts each command.
+    fn watch_run(&mut self, session: &Session, line: &[u8]) -> u64 {
+        let fields: Vec<&[u8]> = line.split(|byte| *byte == b',').collect();
+        let [b"r", pane, budget] = fields[..] else {
+            return 0;
+        };
+        let (Some(pane), Some(budget)) = (decimal(pane), decimal(budget)) else {
+            return 0;
+        };
+        let mut copy = session.clone();
+        let Some(console) = copy.console.as_mut() else {
+            return 0;
+        };
+        if pane >= console.row_count || console.panes[pane as usize].status != RUNNING {
+            return 0;
+        }
+        let mut done = 0;
+        while done < u64::from(budget) {
+            let (screen, stores) = (copy.screen.clone(), copy.stores.clone());
+            let mut lent = lend(console, &mut copy.screen, &mut copy.stores, pane as usize);
+            let (flag, pointer) = (lent.record.pick_flag, lent.record.pointer);
+            let active = lent.record.bitmap;
+            let byte_mode = lent.record.font.is_some_and(|font| font.byte_mode);
+            let outcome = step(&mut lent);
+            let picked = !flag && lent.record.pick_flag;
+            let opcode = lent.store.get(pointer as usize + 1).copied().unwrap_or(0);
+            match outcome {
+                Outcome::Done(command) => {
+                    let changed = picked || copy.screen != screen || copy.stores != stores;
+                    let entry = self
+                        .commands
+                        .entry(kind(&command, active, byte_mode))
+                        .or_default();
+                    entry.0 += 1;
+                    entry.1 += u64::from(changed);
+                    done += 1;
+                }
+                Outcome::Ended => {
+                    self.ended += 1;
+                    break;
+                }
+                Outcome::Faulted(fault) => {
+                    *self.faults.entry(fault.0).or_default() += 1;
+                    *self.fault_opcodes.entry((fault.0, opcode)).or_default() += 1;
+                    break;
+                }
+            }
+        }
+        done
+    }
+
+    /// The counts as text.
+    pub fn report(&self) -> String {
+        let mut text = Vec::new();
+        let scripts = self.scripts.max(1);
+        let done: u64 = self.commands.values().map(|counts| counts.0).sum();
+        text.push(format!(
+            "{} scripts, {} bytes and {} lines each, {} lines print ?",
+            self.scripts,
+            self.bytes / scripts,
+            self.lines / scripts,
+            self.malformed
+        ));
+        text.push(format!(
+            "{} commands done each, {} at most, {} scripts with fewer than 20",
+            done / scripts,
+            self.most_commands,
+            self.scripts_with_few
+        ));
+        text.push(format!(
+            "{} pixels read each, {} of them not 0",
+            self.pixels / scripts,
+            self.pixels_not_zero / scripts
+        ));
+        text.push(format!("depths {:?}, panes {:?}", self.depths, self.panes));
+        text.push(format!(
+            "runs to an end word {}, looks with pick flag {}, with trap flag {}",
+            self.ended, self.picked, self.trapped
+        ));
+        text.push("command: done, changed a pixel or set the pick flag".to_string());
+        for (name, (count, changed)) in &self.commands {
+            text.push(format!("  {name}: {count}, {changed}"));
+        }
+        text.push("fault: times, by opcode".to_string());
+        for (number, count) in &self.faults {
+            let opcodes: Vec<String> = self
+                .fault_opcodes
+                .iter()
+                .filter(|((fault, _), _)| fault == number && *number != 20)
+                .map(|((_, opcode), times)| format!("{opcode:02x} {times}"))
+                .collect();
+            text.push(format!("  {number}: {count} ({})", opcodes.join(", ")));
+        }
+        text.push("call and refusal: times".to_string());
+        for ((letter, number), count) in &self.refusals {
+            if *letter != ' ' {
+                text.push(format!("  {letter},{number}: {count}"));
+            }
+        }
+        text.join("\n")
+    }
+}
+
+/// A command's name; for a drawing command also where it draws, and how.
+fn kind(command: &Command, active: Bitmap, byte_mode: bool) -> String {
+    let how = match command {
+        Command::Char { .. } if byte_mode => " of bytes",
+        Command::Char { .. } => " of words",
+        Command::BitBltM { address, .. } if *address == PANE_ADDRESS => " from pane",
+        Command::BitBltM { .. } => " from store",
+        Command::Point { .. } | Command::Line { .. } | Command::Rect { .. } => "",
+        Command::Polyline { .. } | Command::ScanLines { .. } | Command::BitBlt { .. } => "",
+        _ => return command.name().to_string(),
+    };
+    let place = if matches!(active, Bitmap::Store { .. }) {
+        "store"
+    } else {
+        "pane"
+    };
+    format!("{}{how} in {place}", command.name())
+}

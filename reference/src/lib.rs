@@ -1,0 +1,30 @@
+//! The pane console, a second time.
+//!
+//! This is written from the paper alone, pixel by pixel and in the paper's own
+//! words, so that the proved console can be compared with it. It is made to be
+//! checked by reading, not to be fast. Each module follows one part of the
+//! paper; the sentences in quotation marks are the paper's.
+//!
+//! No input makes it panic: every number is bounded by the paper and every sum
+//! is taken in integers wide enough for it.
+
+pub mod bitmaps;
+pub mod calls;
+pub mod copies;
+pub mod decode;
+pub mod generator;
+pub mod glyphs;
+pub mod lines;
+pub mod pixels;
+pub mod script;
+pub mod setup;
+pub mod step;
+pub mod words;
+
+/// Why a call was refused: 1 to 12.
+#[derive(Clone, Copy, Debug, PartialEq, Eq)]
+pub struct Refusal(pub u32);
+
+/// Why a command was not done: 20 to 29.
+#[derive(Clone, Copy, Debug, PartialEq, Eq)]
+pub struct Fault(pub u32);

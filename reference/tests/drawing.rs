@@ -1,0 +1,192 @@
+//! What drawing commands do, worked out by hand; and two shortcuts of the code
+//! against the paper's wording.
+
+mod bench;
+use bench::*;
+use reference::glyphs::advance;
+use reference::lines::outline_pixels;
+use reference::pixels::{operate, pattern_bit};
+use std::collections::HashSet;
+
+/// "The Fcode is the truth table": code ABCD gives A for old 0 and source 0, B
+/// for old 0 and source 1, C for old 1 and source 0, D for old 1 and source 1.
+#[test]
+fn operations_are_their_truth_tables() {
+    for code in 0..16u32 {
+        for (source, old, place) in [
+            (false, false, 3),
+            (true, false, 2),
+            (false, true, 1),
+            (true, true, 0),
+        ] {
+            assert_eq!(operate(code, source, old), code >> place & 1 == 1);
+        }
+    }
+}
+
+/// RECT in the paper's words: walk the four sides, pass over what was visited.
+fn walked(x: i64, y: i64, dx: i64, dy: i64) -> Vec<(i64, i64)> {
+    let corners = [(x, y), (x + dx, y), (x + dx, y + dy), (x, y + dy), (x, y)];
+    let mut seen = HashSet::new();
+    let mut order = Vec::new();
+    let mut visit = |pixel| {
+        if seen.insert(pixel) {
+            order.push(pixel);
+        }
+    };
+    visit((x, y));
+    for side in corners.windows(2) {
+        let ((mut across, mut down), end) = (side[0], side[1]);
+        while (across, down) != end {
+            across += (end.0 - across).signum();
+            down += (end.1 - down).signum();
+            visit((across, down));
+        }
+    }
+    order
+}
+
+#[test]
+fn outlines_are_walked() {
+    for dx in -4..=4 {
+        for dy in -4..=4 {
+            let pixels: Vec<_> = outline_pixels(10, 20, dx, dy).collect();
+            assert_eq!(pixels, walked(10, 20, dx, dy), "RECT {dx} {dy}");
+        }
+    }
+    let far: Vec<_> = outline_pixels(-3, 7, -32768, 32767).collect();
+    assert_eq!(far, walked(-3, 7, -32768, 32767));
+}
+
+#[test]
+fn pattern_bits_run_from_the_left() {
+    let row: Vec<_> = (0..18).map(|i| u8::from(pattern_bit(0xA001, i))).collect();
+    assert_eq!(row, [1, 0, 1, 0, 0, 0, 0, 0, 0, 0, 0, 0, 0, 0, 0, 1, 1, 0]);
+}
+
+/// Spacing 1, width 3, height 5, at every path and rotation.
+#[test]
+fn characters_move_along_the_path() {
+    let moves: Vec<Vec<_>> = (0..4)
+        .map(|path| {
+            (0..4)
+                .map(|rotation| advance(path, rotation, 1, 3, 5))
+                .collect()
+        })
+        .collect();
+    assert_eq!(moves[0], [(4, 0), (6, 0), (4, 0), (6, 0)]);
+    assert_eq!(moves[1], [(0, -6), (0, -4), (0, -6), (0, -4)]);
+    assert_eq!(moves[2], [(-4, 0), (-6, 0), (-4, 0), (-6, 0)]);
+    assert_eq!(moves[3], [(0, 6), (0, 4), (0, 6), (0, 4)]);
+}
+
+/// An overlapping copy in each of eight directions equals a copy of what was
+/// there before.
+#[test]
+fn overlapping_copies_in_all_directions() {
+    for (to_x, to_y) in [
+        (1, 1),
+        (3, 1),
+        (1, 3),
+        (3, 3),
+        (2, 1),
+        (2, 3),
+        (1, 2),
+        (3, 2),
+    ] {
+        let mut bench = Bench::whole(6, 6, 8);
+        for y in 0..6u8 {
+            for x in 0..6u8 {
+                // Pixel (x,y) holds 10y + x; even columns are the high bytes.
+                bench.screen[usize::from(y * 6 + (x ^ 1))] = 10 * y + x;
+            }
+        }
+        assert_eq!(bench.line(1), [10, 11, 12, 13, 14, 15]);
+        bench.done(&[
+            &pane_bitmap(6, 6, 8),
+            &at(to_x as i16, to_y as i16),
+            &[0x6400, 2, 2, 2, 2],
+        ]);
+        for y in 0..6u32 {
+            for x in 0..6u32 {
+                let copied = (to_x..to_x + 3).contains(&x) && (to_y..to_y + 3).contains(&y);
+                let (from_x, from_y) = if copied {
+                    (x + 2 - to_x, y + 2 - to_y)
+                } else {
+                    (x, y)
+                };
+                assert_eq!(bench.pixel(0, x, y), Ok((10 * from_y + from_x) as u16));
+            }
+        }
+    }
+}
+
+/// In pick mode all but the pixels happens: the position moves, T sets its
+/// flag, and the pick flag tells of the drawn pixels alone.
+#[test]
+fn pick_mode_keeps_the_rest() {
+    let mut bench = Bench::whole(8, 2, 1);
+    // A glyph of 4 by 1 pixels with T, all its bits 0; a string of it.
+    bench.put_words(0x100, &[0x8003, 0x0000]);
+    bench.put_words(0x110, &[0x0000]);
+    bench.screen.fill(0x5A);
+    let screen = bench.screen.clone();
+    let text = |opcode: u16| [opcode, 0x110, 0, 1];
+    let head: [&[u16]; 4] = [
+        &pane_bitmap(8, 2, 1),
+        &colors(0xFFFF, 0),
+        &[0x0A00, 0x100, 0],
+        &[0x4400],
+    ];
+    bench.done(&[head[0], head[1], head[2], head[3], &text(0xA700)]);
+    let look = bench.look(0).unwrap();
+    assert_eq!((look.x, look.pick, look.trap), (4, false, true));
+    bench.done(&[&text(0xA600)]);
+    let look = bench.look(0).unwrap();
+    assert_eq!((look.x, look.pick, look.trap), (8, true, true));
+    // ENTER_PICK clears the pick flag, nothing the trap flag.
+    bench.done(&[&[0x4400], &text(0xA600)]);
+    let look = bench.look(0).unwrap();
+    assert_eq!((look.x, look.pick, look.trap), (12, false, true));
+    assert_eq!(bench.screen, screen);
+}
+
+/// A pane changes no bit of the screen outside its rectangle and none of
+/// another pane's store.
+#[test]
+fn a_pane_keeps_to_its_own() {
+    for depth in [1u16, 2, 4, 8] {
+        let rows = [row(3, 1, 7, 3, 10, 200), row(10, 1, 5, 3, 210, 100)];
+        let mut bench = Bench::open(21, 5, u32::from(depth), &rows);
+        bench.screen.fill(0xA5);
+        bench.stores.fill(0x3C);
+        let before = bench.clone();
+        bench.done(&[
+            &pane_bitmap(7, 3, depth),
+            &[0x4100, 0xFFFF, 0xC],
+            &at(-100, 0),
+            &[0x5400, 300, 0],
+            &at(-100, 1),
+            &[0x5400, 300, 0],
+            &at(-100, 2),
+            &[0x5400, 300, 0],
+        ]);
+        // Every pixel of the pane is inverted; all other bits are as before.
+        for y in 0..5u32 {
+            for x in 0..21u32 {
+                let bits = u32::from(depth);
+                for bit in x * bits..(x + 1) * bits {
+                    let line_bytes = (21 * bits).div_ceil(16) * 2;
+                    let byte = (y * line_bytes + bit / 8) as usize ^ 1;
+                    let mask = 0x80 >> (bit % 8);
+                    let same = bench.screen[byte] & mask == before.screen[byte] & mask;
+                    let inside = (3..10).contains(&x) && (1..4).contains(&y);
+                    assert_eq!(same, !inside, "depth {depth} x {x} y {y}");
+                }
+            }
+        }
+        assert_eq!(bench.stores[..10], before.stores[..10]);
+        assert_eq!(bench.stores[210..], before.stores[210..]);
+        assert_eq!(bench.console.panes[1..], before.console.panes[1..]);
+    }
+}

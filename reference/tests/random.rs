@@ -1,0 +1,146 @@
+//! Random scripts and random stores: nothing makes the console panic, and what
+//! must never change does not.
+
+mod bench;
+use bench::*;
+use reference::generator::{script, stats::Stats};
+use reference::script::{answer, LONGEST_SCRIPT};
+
+/// A short sequence of random numbers.
+struct Numbers(u64);
+
+impl Numbers {
+    fn next(&mut self) -> u64 {
+        self.0 ^= self.0 << 13;
+        self.0 ^= self.0 >> 7;
+        self.0 ^= self.0 << 17;
+        self.0
+    }
+}
+
+#[test]
+fn random_scripts_are_short_and_depend_on_the_seed_alone() {
+    for seed in 1..60 {
+        let text = script(seed);
+        assert!(text.len() <= LONGEST_SCRIPT);
+        assert_eq!(text, script(seed));
+        let replies = answer(&text);
+        assert!(replies.is_empty() || replies.ends_with('\n'));
+    }
+}
+
+/// Bytes of good scripts are changed at random.
+#[test]
+fn spoiled_scripts_are_answered() {
+    let mut numbers = Numbers(7);
+    for seed in 1..120 {
+        let mut text = script(seed);
+        for _ in 0..8 {
+            if !text.is_empty() {
+                let index = (numbers.next() % text.len() as u64) as usize;
+                // No digit but 0 and 1, lest a budget become very large.
+                text[index] =
+                    [b',', b'\n', b'0', b'1', 0, 255, b'f', b'-'][(numbers.next() % 8) as usize];
+            }
+        }
+        answer(&text);
+    }
+}
+
+/// Random words, most of them with known opcodes, run on a pane in the middle
+/// of a screen. The rest of the screen and of the stores keeps every bit.
+#[test]
+fn random_words_keep_to_their_pane() {
+    let opcodes: Vec<u16> = (0..256)
+        .filter(|opcode| reference::decode::parameter_count(*opcode).is_some())
+        .collect();
+    let mut numbers = Numbers(99);
+    for round in 0..400u32 {
+        let depth = [1, 2, 4, 8][round as usize % 4];
+        let mut bench = Bench::open(
+            40,
+            20,
+            depth,
+            &[row(11, 5, 13, 9, 31, 600), row(24, 5, 9, 9, 631, 40)],
+        );
+        for byte in bench.screen.iter_mut().chain(bench.stores.iter_mut()) {
+            *byte = numbers.next() as u8;
+        }
+        for address in (0..600).step_by(2) {
+            let opcode = opcodes[(numbers.next() % opcodes.len() as u64) as usize];
+            let small = numbers.next() as u16 & 0x1E;
+            let word = match numbers.next() % 3 {
+                0 => opcode << 8,
+                1 => small,
+                _ => 0u16.wrapping_sub(small),
+            };
+            bench.put_words(address, &[word]);
+        }
+        bench.put_words(0, &pane_bitmap(13, 9, depth as u16));
+        let before = bench.clone();
+        for start in [0, 12, 100, 102, 200, 300, 400, 500] {
+            bench.start(0, start).unwrap();
+            let reply = bench.run(0, 300).unwrap();
+            assert!(reply.commands <= 300 && reply.status != 0);
+            // Every call after it still takes the record.
+            assert!(bench.look(0).is_ok());
+        }
+        assert_eq!(bench.stores[..31], before.stores[..31]);
+        assert_eq!(bench.stores[631..], before.stores[631..]);
+        for x in 0..9 {
+            for y in 0..9 {
+                assert_eq!(bench.pixel(1, x, y), before.pixel(1, x, y));
+            }
+        }
+        assert_eq!(bench.console.panes[1], before.console.panes[1]);
+    }
+}
+
+/// The random scripts meet every command, fault and refusal that they can.
+#[test]
+fn random_scripts_cover_the_paper() {
+    let stats = Stats::of(150);
+    for name in [
+        "NOP",
+        "LINK",
+        "CALL",
+        "RETURN",
+        "ABS_MOV",
+        "REL_MOV",
+        "DEF_BITMAP",
+        "DEF_CLIP_RECT",
+        "DEF_COLORS",
+        "DEF_LOGICAL_OP",
+        "DEF_TEXTURE",
+        "DEF_SPACE",
+        "DEF_CHAR_ORIENT",
+        "DEF_CHAR_SET",
+        "ENTER_PICK",
+        "EXIT_PICK",
+        "POINT",
+        "LINE",
+        "RECT",
+        "POLYLINE",
+        "SCAN_LINES",
+        "BIT_BLT",
+        "BIT_BLT_M",
+        "CHAR",
+    ] {
+        assert!(
+            stats
+                .commands
+                .keys()
+                .any(|key| key.split(' ').next() == Some(name)),
+            "{name}"
+        );
+    }
+    for fault in 20..=29 {
+        assert!(stats.faults.contains_key(&fault), "fault {fault}");
+    }
+    for refusal in [1, 2, 3, 4, 5, 6, 8, 9, 10] {
+        assert!(
+            stats.refusals.keys().any(|key| key.1 == refusal),
+            "refusal {refusal}"
+        );
+    }
+}

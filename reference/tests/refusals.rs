@@ -1,0 +1,533 @@
+//! The refusals 1 to 12: when each is replied, in which order, and that a
+//! refused call changes nothing.
+
+mod bench;
+use bench::*;
+use reference::bitmaps::{Bitmap, Clip};
+use reference::calls::RunReply;
+use reference::glyphs::Font;
+use reference::setup::PaneRecord;
+use reference::Refusal;
+
+/// Two panes side by side on a screen of 16 by 4 pixels.
+fn two() -> Bench {
+    Bench::open(
+        16,
+        4,
+        2,
+        &[row(0, 0, 5, 4, 0, 64), row(5, 0, 11, 3, 64, 32)],
+    )
+}
+
+/// What set-up replies after a change, when it must leave all as it was.
+fn refused(change: impl Fn(&mut Bench)) -> u32 {
+    let mut bench = two();
+    // Set-up ignores the pane records; a refused one keeps them.
+    bench.console.panes[0].status = 77;
+    change(&mut bench);
+    let before = bench.clone();
+    let Err(Refusal(number)) = bench.set_up() else {
+        panic!("accepted")
+    };
+    assert_eq!(bench, before);
+    // Every other call makes the same checks first, even for pane 9.
+    assert_eq!(bench.look(9), Err(Refusal(number)));
+    assert_eq!(bench.put(9, 0, &[]), Err(Refusal(number)));
+    assert_eq!(bench.start(9, 0), Err(Refusal(number)));
+    assert_eq!(bench.run(9, 0), Err(Refusal(number)));
+    assert_eq!(bench.pixel(9, 0, 0), Err(Refusal(number)));
+    assert_eq!(bench.peek(9, 0), Err(Refusal(number)));
+    assert_eq!(bench.clear(9), Err(Refusal(number)));
+    assert_eq!(bench, before);
+    number
+}
+
+#[test]
+fn set_up_makes_all_records_fresh_and_keeps_the_buffers() {
+    let mut bench = two();
+    for record in &mut bench.console.panes {
+        record.status = 9;
+        record.return_count = 99;
+    }
+    bench.screen.fill(0xA5);
+    bench.stores.fill(0x5A);
+    let (screen, stores) = (bench.screen.clone(), bench.stores.clone());
+    assert_eq!(bench.set_up(), Ok(()));
+    assert!(bench
+        .console
+        .panes
+        .iter()
+        .all(|record| *record == PaneRecord::fresh()));
+    assert_eq!((bench.screen, bench.stores), (screen, stores));
+}
+
+#[test]
+fn refusal_6_geometry_or_row_count() {
+    assert_eq!(refused(|bench| bench.console.geometry.width = 0), 6);
+    assert_eq!(refused(|bench| bench.console.geometry.width = 4097), 6);
+    assert_eq!(refused(|bench| bench.console.geometry.height = 0), 6);
+    assert_eq!(refused(|bench| bench.console.geometry.height = 4097), 6);
+    assert_eq!(refused(|bench| bench.console.geometry.depth = 0), 6);
+    assert_eq!(refused(|bench| bench.console.geometry.depth = 3), 6);
+    assert_eq!(refused(|bench| bench.console.geometry.depth = 16), 6);
+    assert_eq!(refused(|bench| bench.console.row_count = 0), 6);
+    assert_eq!(refused(|bench| bench.console.row_count = 9), 6);
+    assert_eq!(refused(|bench| bench.console.row_count = u32::MAX), 6);
+    // 6 comes before 7.
+    assert_eq!(
+        refused(|bench| {
+            bench.console.geometry.depth = 5;
+            bench.screen.clear();
+        }),
+        6
+    );
+}
+
+#[test]
+fn set_up_takes_the_largest_screen() {
+    let mut bench = Bench::planned(4096, 4096, 8, &[row(0, 0, 4096, 4096, 0, 0)]);
+    assert_eq!(bench.set_up(), Ok(()));
+}
+
+#[test]
+fn refusal_7_screen_buffer() {
+    assert_eq!(
+        refused(|bench| {
+            bench.screen.pop();
+        }),
+        7
+    );
+    // A longer buffer is good.
+    let mut bench = two();
+    bench.screen.push(0);
+    assert_eq!(bench.set_up(), Ok(()));
+    // 7 comes before 8.
+    assert_eq!(
+        refused(|bench| {
+            bench.screen.clear();
+            bench.console.rows[0].width = 0;
+        }),
+        7
+    );
+}
+
+#[test]
+fn refusal_8_rectangle() {
+    assert_eq!(refused(|bench| bench.console.rows[0].width = 0), 8);
+    assert_eq!(refused(|bench| bench.console.rows[1].height = 0), 8);
+    assert_eq!(refused(|bench| bench.console.rows[1].width = 12), 8);
+    assert_eq!(refused(|bench| bench.console.rows[1].height = 5), 8);
+    assert_eq!(refused(|bench| bench.console.rows[0].left = u32::MAX), 8);
+    assert_eq!(refused(|bench| bench.console.rows[0].top = u32::MAX), 8);
+    // 8 of a later row comes before 9 of an earlier one.
+    assert_eq!(
+        refused(|bench| {
+            bench.console.rows[0].store_length = 63;
+            bench.console.rows[1].width = 12;
+        }),
+        8
+    );
+    // Rows from the count on are not looked at.
+    let mut bench = two();
+    bench.console.rows[2] = row(99, 99, 0, 0, 9999, 9999);
+    assert_eq!(bench.set_up(), Ok(()));
+}
+
+#[test]
+fn refusal_9_store() {
+    assert_eq!(refused(|bench| bench.console.rows[0].store_length = 63), 9);
+    assert_eq!(refused(|bench| bench.console.rows[1].store_length = 34), 9);
+    assert_eq!(
+        refused(|bench| bench.console.rows[1].store_start = u32::MAX),
+        9
+    );
+    // Above 2,097,152 bytes, though the buffer is long enough.
+    assert_eq!(
+        refused(|bench| {
+            bench.console.rows[1].store_length = 2_097_154;
+            bench.stores = vec![0; 64 + 2_097_154];
+        }),
+        9
+    );
+    let mut bench = two();
+    bench.console.rows[1].store_length = 2_097_152;
+    bench.stores = vec![0; 64 + 2_097_152];
+    assert_eq!(bench.set_up(), Ok(()));
+    // An empty store may stand at the buffer's end, not past it.
+    let mut bench = two();
+    bench.console.rows[1].store_length = 0;
+    bench.console.rows[1].store_start = 96;
+    assert_eq!(bench.set_up(), Ok(()));
+    bench.console.rows[1].store_start = 97;
+    assert_eq!(bench.set_up(), Err(Refusal(9)));
+    // A store may begin at an odd byte.
+    let mut bench = two();
+    bench.console.rows[1].store_start = 65;
+    bench.console.rows[1].store_length = 30;
+    assert_eq!(bench.set_up(), Ok(()));
+    // 9 comes before 10.
+    assert_eq!(
+        refused(|bench| {
+            bench.console.rows[1].store_length = 1;
+            bench.console.rows[1].left = 4;
+        }),
+        9
+    );
+}
+
+#[test]
+fn refusal_10_rectangles_share_a_pixel() {
+    assert_eq!(refused(|bench| bench.console.rows[0].width = 6), 10);
+    assert_eq!(refused(|bench| bench.console.rows[1].left = 4), 10);
+    // 10 comes before 11.
+    assert_eq!(
+        refused(|bench| {
+            bench.console.rows[1].left = 4;
+            bench.console.rows[1].store_start = 63;
+        }),
+        10
+    );
+}
+
+#[test]
+fn refusal_11_stores_share_a_byte() {
+    assert_eq!(refused(|bench| bench.console.rows[1].store_start = 63), 11);
+    assert_eq!(refused(|bench| bench.console.rows[1].store_start = 0), 11);
+    // An empty store inside another shares nothing.
+    let mut bench = two();
+    bench.console.rows[1].store_start = 10;
+    bench.console.rows[1].store_length = 0;
+    assert_eq!(bench.set_up(), Ok(()));
+}
+
+#[test]
+fn refusal_1_no_such_pane() {
+    let mut bench = two();
+    // 1 comes before 12: the record of a pane without a row is not looked at.
+    bench.console.panes[2].status = 9;
+    let before = bench.clone();
+    for pane in [2, 7, 8, u32::MAX] {
+        assert_eq!(bench.put(pane, 0, &[1]), Err(Refusal(1)));
+        assert_eq!(bench.start(pane, 1), Err(Refusal(1)));
+        assert_eq!(bench.run(pane, 1), Err(Refusal(1)));
+        assert_eq!(bench.look(pane), Err(Refusal(1)));
+        assert_eq!(bench.pixel(pane, 0, 0), Err(Refusal(1)));
+        assert_eq!(bench.peek(pane, 0), Err(Refusal(1)));
+        assert_eq!(bench.clear(pane), Err(Refusal(1)));
+    }
+    assert_eq!(bench, before);
+}
+
+/// Whether pane 0's record is refused with 12 after a change.
+fn unsound(change: impl Fn(&mut PaneRecord)) -> bool {
+    let mut bench = two();
+    change(bench.record());
+    let before = bench.clone();
+    let reply = bench.look(0);
+    if reply.is_ok() {
+        return false;
+    }
+    let no = Refusal(12);
+    assert_eq!(reply, Err(no));
+    assert_eq!(bench.put(0, 999, &[1]), Err(no));
+    assert_eq!(bench.start(0, 1), Err(no));
+    assert_eq!(bench.run(0, 1), Err(no));
+    assert_eq!(bench.pixel(0, 99, 0), Err(no));
+    assert_eq!(bench.peek(0, 999), Err(no));
+    assert_eq!(bench.clear(0), Err(no));
+    assert_eq!(bench, before);
+    // The other pane is not touched by it.
+    assert!(bench.look(1).is_ok());
+    true
+}
+
+/// A store bitmap of 4 by 3 pixels, 4 bits each: six bytes from 10 on.
+fn small() -> Bitmap {
+    Bitmap::Store {
+        address: 10,
+        xmax: 3,
+        ymax: 2,
+        bits: 4,
+    }
+}
+
+/// Whether a bitmap with a clip of one pixel is refused.
+fn bitmap_unsound(bitmap: Bitmap) -> bool {
+    unsound(|record| record.bitmap = bitmap)
+}
+
+#[test]
+fn refusal_12_status_and_fault() {
+    assert!(unsound(|record| record.status = 4));
+    assert!(unsound(|record| record.status = u32::MAX));
+    for status in 0..3 {
+        assert!(!unsound(|record| record.status = status));
+        assert!(unsound(|record| {
+            record.status = status;
+            record.fault = 20;
+        }));
+    }
+    for (fault, expected) in [(0, true), (19, true), (20, false), (29, false), (30, true)] {
+        assert_eq!(
+            unsound(|record| {
+                record.status = 3;
+                record.fault = fault;
+            }),
+            expected
+        );
+    }
+}
+
+#[test]
+fn refusal_12_bitmap() {
+    assert!(!bitmap_unsound(Bitmap::Pane {
+        xmax: 4,
+        ymax: 3,
+        bits: 2
+    }));
+    assert!(bitmap_unsound(Bitmap::Pane {
+        xmax: 5,
+        ymax: 3,
+        bits: 2
+    }));
+    assert!(bitmap_unsound(Bitmap::Pane {
+        xmax: 4,
+        ymax: 4,
+        bits: 2
+    }));
+    assert!(bitmap_unsound(Bitmap::Pane {
+        xmax: 4,
+        ymax: 3,
+        bits: 4
+    }));
+    assert!(!bitmap_unsound(small()));
+    assert!(bitmap_unsound(Bitmap::Store {
+        address: 11,
+        xmax: 3,
+        ymax: 2,
+        bits: 4
+    }));
+    assert!(bitmap_unsound(Bitmap::Store {
+        address: 10,
+        xmax: 3,
+        ymax: 2,
+        bits: 3
+    }));
+    assert!(bitmap_unsound(Bitmap::Store {
+        address: 0,
+        xmax: 0x8000,
+        ymax: 0,
+        bits: 1
+    }));
+    // Six bytes end at 64, the store's end, or pass it.
+    assert!(!bitmap_unsound(Bitmap::Store {
+        address: 58,
+        xmax: 3,
+        ymax: 2,
+        bits: 4
+    }));
+    assert!(bitmap_unsound(Bitmap::Store {
+        address: 60,
+        xmax: 3,
+        ymax: 2,
+        bits: 4
+    }));
+}
+
+#[test]
+fn refusal_12_clip() {
+    // Without a bitmap all four are 0.
+    assert!(unsound(|record| record.clip.xmin = 1));
+    assert!(unsound(|record| record.clip.ymax = -1));
+    let with = |clip: Clip| {
+        unsound(move |record| {
+            record.bitmap = small();
+            record.clip = clip;
+        })
+    };
+    assert!(!with(Clip {
+        xmin: 0,
+        ymin: 0,
+        xmax: 3,
+        ymax: 2
+    }));
+    // A maximum below its minimum is good.
+    assert!(!with(Clip {
+        xmin: 3,
+        ymin: 2,
+        xmax: 0,
+        ymax: 0
+    }));
+    assert!(with(Clip {
+        xmin: 4,
+        ymin: 0,
+        xmax: 3,
+        ymax: 2
+    }));
+    assert!(with(Clip {
+        xmin: 0,
+        ymin: 3,
+        xmax: 3,
+        ymax: 2
+    }));
+    assert!(with(Clip {
+        xmin: 0,
+        ymin: 0,
+        xmax: 4,
+        ymax: 2
+    }));
+    assert!(with(Clip {
+        xmin: 0,
+        ymin: 0,
+        xmax: 3,
+        ymax: 3
+    }));
+    assert!(with(Clip {
+        xmin: -1,
+        ymin: 0,
+        xmax: 3,
+        ymax: 2
+    }));
+}
+
+#[test]
+fn refusal_12_the_rest() {
+    let font = |base| {
+        Some(Font {
+            base,
+            byte_mode: false,
+        })
+    };
+    assert!(!unsound(|record| record.font = font(0x3F_FFFE)));
+    assert!(unsound(|record| record.font = font(0x3F_FFFF)));
+    assert!(unsound(|record| record.font = font(0x40_0000)));
+    assert!(!unsound(|record| record.operation = 15));
+    assert!(unsound(|record| record.operation = 16));
+    assert!(!unsound(|record| record.path = 3));
+    assert!(unsound(|record| record.path = 4));
+    assert!(!unsound(|record| record.rotation = 3));
+    assert!(unsound(|record| record.rotation = 4));
+    assert!(!unsound(|record| record.return_count = 8));
+    assert!(unsound(|record| record.return_count = 9));
+    // Pointer and return addresses are free.
+    assert!(!unsound(|record| {
+        record.pointer = u32::MAX;
+        record.returns = [u32::MAX; 8];
+    }));
+}
+
+#[test]
+fn refusal_2_put() {
+    let mut bench = two();
+    assert_eq!(bench.put(1, 0, &[7; 32]), Ok(()));
+    assert_eq!(bench.stores[..64], [0; 64]);
+    assert_eq!(bench.stores[64..], [7; 32]);
+    assert_eq!(bench.put(1, 32, &[]), Ok(()));
+    assert_eq!(bench.put(1, 31, &[8]), Ok(()));
+    let before = bench.clone();
+    assert_eq!(bench.put(1, 0, &[1; 33]), Err(Refusal(2)));
+    assert_eq!(bench.put(1, 31, &[1, 2]), Err(Refusal(2)));
+    assert_eq!(bench.put(1, 32, &[1]), Err(Refusal(2)));
+    assert_eq!(bench.put(1, 33, &[]), Err(Refusal(2)));
+    assert_eq!(bench.put(1, u32::MAX, &[1]), Err(Refusal(2)));
+    assert_eq!(bench, before);
+}
+
+#[test]
+fn refusals_3_and_2_start() {
+    let mut bench = two();
+    let before = bench.clone();
+    // 3 comes before 2.
+    assert_eq!(bench.start(0, 65), Err(Refusal(3)));
+    assert_eq!(bench.start(0, 1), Err(Refusal(3)));
+    assert_eq!(bench.start(0, 64), Err(Refusal(2)));
+    assert_eq!(bench, before);
+    // Accepted at any status; it keeps all but four fields.
+    let record = bench.record();
+    record.status = 3;
+    record.fault = 27;
+    record.pointer = 9;
+    record.x = -5;
+    record.trap_flag = true;
+    record.return_count = 2;
+    record.returns = [1, 2, 0, 0, 0, 0, 0, 0];
+    let mut expected = record.clone();
+    expected.status = 1;
+    expected.fault = 0;
+    expected.pointer = 62;
+    expected.return_count = 0;
+    expected.returns = [0; 8];
+    assert_eq!(bench.start(0, 62), Ok(()));
+    assert_eq!(*bench.record(), expected);
+    // Nothing can be started in an empty store.
+    let mut bench = Bench::open(8, 8, 1, &[row(0, 0, 8, 8, 0, 0)]);
+    assert_eq!(bench.start(0, 0), Err(Refusal(2)));
+    assert_eq!(bench.put(0, 0, &[]), Ok(()));
+}
+
+#[test]
+fn refusal_4_run() {
+    let mut bench = two();
+    for status in [0, 2, 3] {
+        bench.record().status = status;
+        bench.record().fault = if status == 3 { 20 } else { 0 };
+        let before = bench.clone();
+        assert_eq!(bench.run(0, 5), Err(Refusal(4)));
+        assert_eq!(bench, before);
+    }
+    // A budget of 0 does nothing, even before an end word.
+    bench.put_words(0, &[0x0001]);
+    bench.start(0, 0).unwrap();
+    assert_eq!(
+        bench.run(0, 0),
+        Ok(RunReply {
+            commands: 0,
+            status: 1,
+            fault: 0
+        })
+    );
+    assert_eq!(
+        bench.run(0, 1),
+        Ok(RunReply {
+            commands: 0,
+            status: 2,
+            fault: 0
+        })
+    );
+}
+
+#[test]
+fn refusal_5_pixel() {
+    let mut bench = two();
+    bench.screen.fill(0xFF);
+    let before = bench.clone();
+    assert_eq!(bench.pixel(1, 10, 2), Ok(3));
+    assert_eq!(bench.pixel(1, 11, 2), Err(Refusal(5)));
+    assert_eq!(bench.pixel(1, 10, 3), Err(Refusal(5)));
+    assert_eq!(bench.pixel(1, u32::MAX, u32::MAX), Err(Refusal(5)));
+    assert_eq!(bench, before);
+}
+
+#[test]
+fn refusal_2_peek() {
+    let mut bench = two();
+    bench.stores[64] = 9;
+    bench.stores[95] = 11;
+    assert_eq!(bench.peek(1, 0), Ok(9));
+    assert_eq!(bench.peek(1, 31), Ok(11));
+    assert_eq!(bench.peek(1, 32), Err(Refusal(2)));
+    assert_eq!(bench.peek(1, u32::MAX), Err(Refusal(2)));
+}
+
+#[test]
+fn clear_makes_one_record_fresh() {
+    let mut bench = two();
+    bench.screen.fill(0x11);
+    bench.stores.fill(0x22);
+    bench.console.panes[0].x = 4;
+    bench.console.panes[1].x = 5;
+    let mut expected = bench.clone();
+    expected.console.panes[0] = PaneRecord::fresh();
+    assert_eq!(bench.clear(0), Ok(()));
+    assert_eq!(bench, expected);
+}
