@@ -12,3 +12,13 @@ pub mod SetupLaws
 pub mod CallLaws
 pub mod RunLaws
 pub mod QuietLaws
+pub mod Computing
+pub mod Listings
+pub mod Scripts
+pub mod Figures
+pub mod Example
+pub mod LinePictures
+pub mod PenPictures
+pub mod CopyPictures
+pub mod CharPictures
+pub mod ListPictures
