@@ -8,13 +8,15 @@ use Rattle.model.specs.Bitmaps.{paneAddress}
 use Rattle.model.specs.Figures.{neg}
 use Rattle.model.proofs.Computing.{machine}
 use Rattle.model.proofs.Listings.{minus, halt, defBitmap, defClipRect, defColors, opaque, transparent, defSpace, defCharOrient, wordFont, byteFont, enterPick, absMov, char, charTransparent, bytes}
-use Rattle.model.proofs.Scripts.{Picture, frame, piece, painted, blank, ended, outcomes, expectations}
+use Rattle.model.proofs.Scripts.{Picture, piece, painted, blank, ended, outcomes, expectations}
 
 abbrev table : List Picture
 table =
     -- CHAR in word mode: a cell of 3 by 2, rows 110 and 001, at the four rotations; opaque, so its zeros are drawn too
     record {
-      frame = frame 1 16 8 1 0 0 16 8 118;
+      geometry = record { width = 16; height = 8; depth = 1 };
+      words = 1;
+      pane = record { left = 0; top = 0; width = 16; height = 8; start = 2; len = 118 };
       commands =
           defBitmap paneAddress 15 7 1 ∷ defColors 0xFFFF 0x0000 ∷ wordFont 0x6A ∷ defCharOrient 0 0 ∷ absMov 1 1 ∷ char 0x68 1
           ∷ defCharOrient 0 1 ∷ absMov 6 4 ∷ char 0x68 1 ∷ defCharOrient 0 2 ∷ absMov 14 3 ∷ char 0x68 1 ∷ defCharOrient 0 3 ∷ absMov 11 5
@@ -48,7 +50,9 @@ table =
     }
     -- A string in word mode: S keeps the position, T sets the trap flag and the string goes on; a descriptor's other bits do not count
     ∷ record {
-      frame = frame 1 16 4 1 1 0 15 4 112;
+      geometry = record { width = 16; height = 4; depth = 1 };
+      words = 1;
+      pane = record { left = 1; top = 0; width = 15; height = 4; start = 2; len = 112 };
       commands =
           defBitmap paneAddress 14 3 1 ∷ defColors 0xFFFF 0x0000 ∷ wordFont 0x40 ∷ defSpace 1 ∷ absMov 0 1 ∷ charTransparent 0x38 4 ∷ halt ∷ [];
       pieces =
@@ -69,7 +73,9 @@ table =
     }
     -- Byte mode: a string at an odd address, codes 1, 3, 1 through the offset words. Path 180 at rotation 90: the position moves by the height
     ∷ record {
-      frame = frame 1 16 8 1 0 0 16 8 100;
+      geometry = record { width = 16; height = 8; depth = 1 };
+      words = 1;
+      pane = record { left = 0; top = 0; width = 16; height = 8; start = 2; len = 100 };
       commands =
           defBitmap paneAddress 15 7 1 ∷ defColors 0xFFFF 0x0000 ∷ byteFont 0x40 ∷ defSpace 2 ∷ defCharOrient 2 1 ∷ absMov 12 5 ∷ char 0x3B 3
           ∷ halt ∷ [];
@@ -95,7 +101,9 @@ table =
     }
     -- The other two opcodes: A8 hex is opaque, A9 hex transparent, neither reversed; DEF_TEXTURE's transparency does not matter
     ∷ record {
-      frame = frame 2 8 2 1 0 0 8 2 88;
+      geometry = record { width = 8; height = 2; depth = 2 };
+      words = 1;
+      pane = record { left = 0; top = 0; width = 8; height = 2; start = 2; len = 88 };
       commands =
           defBitmap paneAddress 7 1 2 ∷ defColors 0xFFFF 0x5555 ∷ wordFont 0x40 ∷ transparent 0xFFFF ∷ (0xA800 ∷ 0x003E ∷ 0x0000 ∷ 0x0001 ∷ [])
           ∷ opaque 0x0000 ∷ absMov 0 1 ∷ (0xA900 ∷ 0x003E ∷ 0x0000 ∷ 0x0001 ∷ []) ∷ halt ∷ [];
@@ -116,7 +124,9 @@ table =
     }
     -- The largest cell, 16 by 16, cut by the pane on all sides but the left
     ∷ record {
-      frame = frame 1 16 4 1 2 0 10 4 86;
+      geometry = record { width = 16; height = 4; depth = 1 };
+      words = 1;
+      pane = record { left = 2; top = 0; width = 10; height = 4; start = 2; len = 86 };
       commands =
           defBitmap paneAddress 9 3 1 ∷ defColors 0xFFFF 0x0000 ∷ wordFont 0x34 ∷ absMov 1 (minus 2) ∷ char 0x32 1 ∷ halt ∷ [];
       pieces =
@@ -135,7 +145,9 @@ table =
     }
     -- A clip cuts characters; one wholly outside still moves the position. Path 90 at rotation 270: it moves up by the width
     ∷ record {
-      frame = frame 1 16 8 1 0 0 16 8 80;
+      geometry = record { width = 16; height = 8; depth = 1 };
+      words = 1;
+      pane = record { left = 0; top = 0; width = 16; height = 8; start = 2; len = 80 };
       commands =
           defBitmap paneAddress 15 7 1 ∷ defColors 0xFFFF 0x0000 ∷ wordFont 0x48 ∷ defClipRect 5 2 8 5 ∷ defCharOrient 1 3 ∷ absMov 7 6
           ∷ char 0x44 2 ∷ halt ∷ [];
@@ -159,7 +171,9 @@ table =
     }
     -- In pick mode a cell's zeros count if opaque, not if transparent, as here; position and trap flag go on as ever
     ∷ record {
-      frame = frame 1 16 2 1 0 0 16 2 76;
+      geometry = record { width = 16; height = 2; depth = 1 };
+      words = 1;
+      pane = record { left = 0; top = 0; width = 16; height = 2; start = 2; len = 76 };
       commands =
           defBitmap paneAddress 15 1 1 ∷ defColors 0xFFFF 0x0000 ∷ wordFont 0x48 ∷ enterPick ∷ charTransparent 0x46 1 ∷ halt ∷ [];
       pieces =
@@ -173,7 +187,9 @@ table =
     }
     -- and here they count
     ∷ record {
-      frame = frame 1 16 2 1 0 0 16 2 76;
+      geometry = record { width = 16; height = 2; depth = 1 };
+      words = 1;
+      pane = record { left = 0; top = 0; width = 16; height = 2; start = 2; len = 76 };
       commands =
           defBitmap paneAddress 15 1 1 ∷ defColors 0xFFFF 0x0000 ∷ wordFont 0x48 ∷ enterPick ∷ char 0x46 1 ∷ halt ∷ [];
       pieces =
@@ -187,7 +203,9 @@ table =
     }
     -- CHAR on a bitmap in the store, between the list and the string
     ∷ record {
-      frame = frame 1 16 1 1 0 0 16 1 80;
+      geometry = record { width = 16; height = 1; depth = 1 };
+      words = 1;
+      pane = record { left = 0; top = 0; width = 16; height = 1; start = 2; len = 80 };
       commands =
           defBitmap 0x40 5 1 4 ∷ defColors 0x1234 0xABCD ∷ wordFont 0x4A ∷ absMov 1 0 ∷ char 0x48 1 ∷ halt ∷ [];
       pieces =

@@ -7,13 +7,15 @@ use lib.IntN.{pos}
 use Rattle.model.specs.Bitmaps.{paneAddress}
 use Rattle.model.proofs.Computing.{machine}
 use Rattle.model.proofs.Listings.{minus, halt, defBitmap, defClipRect, defColors, defLogicalOp, transparent, defSpace, absMov, bitBlt, bitBltM}
-use Rattle.model.proofs.Scripts.{Picture, frame, piece, painted, blank, ended, outcomes, expectations}
+use Rattle.model.proofs.Scripts.{Picture, piece, painted, blank, ended, outcomes, expectations}
 
 abbrev table : List Picture
 table =
     -- BIT_BLT over itself, right and down
     record {
-      frame = frame 4 8 3 2 0 0 8 3 40;
+      geometry = record { width = 8; height = 3; depth = 4 };
+      words = 2;
+      pane = record { left = 0; top = 0; width = 8; height = 3; start = 2; len = 40 };
       commands =
           defBitmap paneAddress 7 2 4 ∷ absMov 1 1 ∷ bitBlt 0 0 5 1 ∷ halt ∷ [];
       pieces = [];
@@ -32,7 +34,9 @@ table =
     }
     -- left and up
     ∷ record {
-      frame = frame 4 8 3 2 0 0 8 3 40;
+      geometry = record { width = 8; height = 3; depth = 4 };
+      words = 2;
+      pane = record { left = 0; top = 0; width = 8; height = 3; start = 2; len = 40 };
       commands =
           defBitmap paneAddress 7 2 4 ∷ absMov 0 0 ∷ bitBlt 1 1 5 1 ∷ halt ∷ [];
       pieces = [];
@@ -51,7 +55,9 @@ table =
     }
     -- left and down, partly outside the pane
     ∷ record {
-      frame = frame 4 8 3 2 0 0 8 3 40;
+      geometry = record { width = 8; height = 3; depth = 4 };
+      words = 2;
+      pane = record { left = 0; top = 0; width = 8; height = 3; start = 2; len = 40 };
       commands =
           defBitmap paneAddress 7 2 4 ∷ absMov (minus 1) 1 ∷ bitBlt 1 0 6 2 ∷ halt ∷ [];
       pieces = [];
@@ -70,7 +76,9 @@ table =
     }
     -- right and up; the position moves by dx and the spacing, −3
     ∷ record {
-      frame = frame 4 8 3 2 0 0 8 3 40;
+      geometry = record { width = 8; height = 3; depth = 4 };
+      words = 2;
+      pane = record { left = 0; top = 0; width = 8; height = 3; start = 2; len = 40 };
       commands =
           defBitmap paneAddress 7 2 4 ∷ defSpace (minus 3) ∷ absMov 2 0 ∷ bitBlt 0 1 4 1 ∷ halt ∷ [];
       pieces = [];
@@ -89,7 +97,9 @@ table =
     }
     -- right by one, a single row: every source is read first. Then left by one
     ∷ record {
-      frame = frame 4 8 2 2 0 0 8 2 60;
+      geometry = record { width = 8; height = 2; depth = 4 };
+      words = 2;
+      pane = record { left = 0; top = 0; width = 8; height = 2; start = 2; len = 60 };
       commands =
           defBitmap paneAddress 7 1 4 ∷ absMov 1 0 ∷ bitBlt 0 0 6 0 ∷ absMov 0 1 ∷ bitBlt 1 1 6 0 ∷ halt ∷ [];
       pieces = [];
@@ -106,7 +116,9 @@ table =
     }
     -- A copied 0 is drawn, and texture and colours do not matter; the clip cuts the copy, not its source; XOR under a mask
     ∷ record {
-      frame = frame 4 10 3 3 1 0 8 3 96;
+      geometry = record { width = 10; height = 3; depth = 4 };
+      words = 3;
+      pane = record { left = 1; top = 0; width = 8; height = 3; start = 2; len = 96 };
       commands =
           defBitmap paneAddress 7 2 4 ∷ defColors 0xFFFF 0xFFFF ∷ transparent 0x0000 ∷ defClipRect 3 1 6 2 ∷ absMov 2 1 ∷ bitBlt 0 0 5 0
           ∷ defLogicalOp 0xF0FF 6 ∷ absMov 2 2 ∷ bitBlt 0 0 5 0 ∷ halt ∷ [];
@@ -126,7 +138,9 @@ table =
     }
     -- BIT_BLT_M from the pane into a store bitmap of its depth, then from there back into the pane. The bitmap's rows end in the middle of a word
     ∷ record {
-      frame = frame 2 12 3 2 2 0 9 3 120;
+      geometry = record { width = 12; height = 3; depth = 2 };
+      words = 2;
+      pane = record { left = 2; top = 0; width = 9; height = 3; start = 2; len = 120 };
       commands =
           defBitmap 0x60 8 2 2 ∷ absMov 1 1 ∷ bitBltM paneAddress 8 2 2 0 5 1 ∷ defBitmap paneAddress 8 2 2 ∷ absMov 3 0
           ∷ bitBltM 0x60 8 2 0 0 4 2 ∷ halt ∷ [];
@@ -146,7 +160,9 @@ table =
     }
     -- BIT_BLT in a store bitmap of depth 8, over itself; the screen has another depth
     ∷ record {
-      frame = frame 1 16 1 1 0 0 16 1 60;
+      geometry = record { width = 16; height = 1; depth = 1 };
+      words = 1;
+      pane = record { left = 0; top = 0; width = 16; height = 1; start = 2; len = 60 };
       commands =
           defBitmap 0x30 2 2 8 ∷ absMov 1 0 ∷ bitBlt 0 0 1 2 ∷ halt ∷ [];
       pieces = piece 0x30 (painted 2 (0x01_02_03_EE ∷ 0x04_05_06_EE ∷ 0x07_08_09_EE ∷ [])) ∷ [];
@@ -157,7 +173,9 @@ table =
     }
     -- BIT_BLT_M between two bitmaps of the store: the source's bitmap overlaps the active one, its rectangle does not
     ∷ record {
-      frame = frame 1 16 1 1 0 0 16 1 100;
+      geometry = record { width = 16; height = 1; depth = 1 };
+      words = 1;
+      pane = record { left = 0; top = 0; width = 16; height = 1; start = 2; len = 100 };
       commands =
           defBitmap 0x48 3 1 4 ∷ absMov 0 0 ∷ bitBltM 0x40 7 2 1 0 3 1 ∷ halt ∷ [];
       pieces = piece 0x40 (painted 2 (0x1234_5678 ∷ 0x9ABC_DEF0 ∷ 0x2468_ACE1 ∷ [])) ∷ [];
@@ -168,7 +186,9 @@ table =
     }
     -- A source in the active bitmap's last row but one: only the rows copied count
     ∷ record {
-      frame = frame 1 16 1 1 0 0 16 1 100;
+      geometry = record { width = 16; height = 1; depth = 1 };
+      words = 1;
+      pane = record { left = 0; top = 0; width = 16; height = 1; start = 2; len = 100 };
       commands =
           defBitmap 0x48 3 0 4 ∷ absMov 3 0 ∷ bitBltM 0x40 3 6 2 5 1 1 ∷ halt ∷ [];
       pieces = piece 0x40 (painted 1 (0x1111 ∷ 0x2222 ∷ 0x3333 ∷ 0x4444 ∷ 0x0000 ∷ 0x5678 ∷ 0x9ABC ∷ [])) ∷ [];

@@ -22,3 +22,7 @@ pub mod PenPictures
 pub mod CopyPictures
 pub mod CharPictures
 pub mod ListPictures
+pub mod FaultCases
+pub mod DrawFaultCases
+pub mod SetupCases
+pub mod RecordCases

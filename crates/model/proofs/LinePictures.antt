@@ -8,13 +8,15 @@ use Rattle.model.specs.Bitmaps.{paneAddress}
 use Rattle.model.specs.Figures.{neg}
 use Rattle.model.proofs.Computing.{machine}
 use Rattle.model.proofs.Listings.{minus, halt, defBitmap, defClipRect, defColors, defLogicalOp, opaque, transparent, absMov, point, line, rect, polyline, scanLines, bytes}
-use Rattle.model.proofs.Scripts.{Picture, frame, piece, blank, ended, outcomes, expectations}
+use Rattle.model.proofs.Scripts.{Picture, piece, blank, ended, outcomes, expectations}
 
 abbrev table : List Picture
 table =
     -- LINE from the middle into each octant
     record {
-      frame = frame 1 16 11 1 0 0 16 11 120;
+      geometry = record { width = 16; height = 11; depth = 1 };
+      words = 1;
+      pane = record { left = 0; top = 0; width = 16; height = 11; start = 2; len = 120 };
       commands =
           defBitmap paneAddress 15 10 1 ∷ defColors 0xFFFF 0x0000 ∷ absMov 7 5 ∷ line 7 3 ∷ absMov 7 5 ∷ line 7 (minus 3) ∷ absMov 7 5
           ∷ line (minus 7) 3 ∷ absMov 7 5 ∷ line (minus 7) (minus 3) ∷ absMov 7 5 ∷ line 3 5 ∷ absMov 7 5 ∷ line (minus 3) 5 ∷ absMov 7 5
@@ -39,7 +41,9 @@ table =
     }
     -- LINE along the axes and the diagonals, and of one pixel; the second opcode of LINE draws as the first
     ∷ record {
-      frame = frame 1 16 7 1 1 1 14 5 108;
+      geometry = record { width = 16; height = 7; depth = 1 };
+      words = 1;
+      pane = record { left = 1; top = 1; width = 14; height = 5; start = 2; len = 108 };
       commands =
           defBitmap paneAddress 13 4 1 ∷ defColors 0xFFFF 0x0000 ∷ absMov 0 0 ∷ line 4 4 ∷ line 4 (minus 4) ∷ (0x5500 ∷ 0x0005 ∷ 0x0000 ∷ [])
           ∷ line 0 4 ∷ line (minus 4) 0 ∷ line (minus 1) (minus 1) ∷ absMov 1 3 ∷ line 0 0 ∷ halt ∷ [];
@@ -59,7 +63,9 @@ table =
     }
     -- The pattern over more than 16 pixels, the first three clipped and counted; opaque, then transparent
     ∷ record {
-      frame = frame 2 24 2 3 1 0 22 2 64;
+      geometry = record { width = 24; height = 2; depth = 2 };
+      words = 3;
+      pane = record { left = 1; top = 0; width = 22; height = 2; start = 2; len = 64 };
       commands =
           defBitmap paneAddress 21 1 2 ∷ defColors 0xFFFF 0x5555 ∷ opaque 0xE8C5 ∷ absMov (minus 3) 0 ∷ line 23 0 ∷ transparent 0xE8C5
           ∷ absMov 21 1 ∷ line (minus 20) 0 ∷ halt ∷ [];
@@ -77,7 +83,9 @@ table =
     }
     -- POINT uses pattern bit 15 alone: 1 foreground, 0 background, or nothing under transparency; outside the pane nothing
     ∷ record {
-      frame = frame 1 16 2 1 3 0 12 2 80;
+      geometry = record { width = 16; height = 2; depth = 1 };
+      words = 1;
+      pane = record { left = 3; top = 0; width = 12; height = 2; start = 2; len = 80 };
       commands =
           defBitmap paneAddress 11 1 1 ∷ defColors 0xFFFF 0x0000 ∷ opaque 0x8000 ∷ point 2 0 ∷ opaque 0x7FFF ∷ point 2 0 ∷ transparent 0x7FFF
           ∷ point 2 0 ∷ transparent 0x8000 ∷ point 2 1 ∷ point 4 0 ∷ point (minus 13) 0 ∷ halt ∷ [];
@@ -95,7 +103,9 @@ table =
     }
     -- POINT moves by whole coordinates: from −32768 by −32768 comes back to 0, wrapped before the pixel is drawn
     ∷ record {
-      frame = frame 1 16 1 1 0 0 16 1 40;
+      geometry = record { width = 16; height = 1; depth = 1 };
+      words = 1;
+      pane = record { left = 0; top = 0; width = 16; height = 1; start = 2; len = 40 };
       commands =
           defBitmap paneAddress 15 0 1 ∷ defColors 0xFFFF 0x0000 ∷ absMov (minus 32768) 0 ∷ point (minus 32768) 0 ∷ halt ∷ [];
       pieces = [];
@@ -108,7 +118,9 @@ table =
     }
     -- POLYLINE, the pattern begun anew at each of three lines; one leaves the pane. Then one of no lines
     ∷ record {
-      frame = frame 1 16 5 1 2 1 13 4 76;
+      geometry = record { width = 16; height = 5; depth = 1 };
+      words = 1;
+      pane = record { left = 2; top = 1; width = 13; height = 4; start = 2; len = 76 };
       commands =
           defBitmap paneAddress 12 3 1 ∷ defColors 0xFFFF 0x0000 ∷ opaque 0xD400 ∷ absMov 3 3 ∷ polyline 0x40 3 ∷ polyline 0x40 0 ∷ halt ∷ [];
       pieces = piece 0x40 (bytes (0xFFFB ∷ 0xFFFE ∷ 0x0006 ∷ 0xFFFF ∷ 0x0004 ∷ 0x0002 ∷ [])) ∷ [];
@@ -125,7 +137,9 @@ table =
     }
     -- SCAN_LINES by XOR: lengths 5, 0 and −3, the pattern begun anew at each; the position stays at the last start
     ∷ record {
-      frame = frame 4 14 4 4 1 0 13 4 96;
+      geometry = record { width = 14; height = 4; depth = 4 };
+      words = 4;
+      pane = record { left = 1; top = 0; width = 13; height = 4; start = 2; len = 96 };
       commands =
           defBitmap paneAddress 12 3 4 ∷ defColors 0x1234 0xFFFF ∷ defLogicalOp 0xFFFF 6 ∷ opaque 0xEC00 ∷ absMov 1 0 ∷ scanLines 0x40 3 ∷ halt
           ∷ [];
@@ -147,7 +161,9 @@ table =
     }
     -- RECT by XOR with each pair of signs: a pixel drawn twice would vanish. The pattern runs along x, along y, back along x, along y
     ∷ record {
-      frame = frame 1 16 7 1 0 0 16 7 96;
+      geometry = record { width = 16; height = 7; depth = 1 };
+      words = 1;
+      pane = record { left = 0; top = 0; width = 16; height = 7; start = 2; len = 96 };
       commands =
           defBitmap paneAddress 15 6 1 ∷ defColors 0xFFFF 0x0000 ∷ defLogicalOp 0xFFFF 6 ∷ opaque 0xED35 ∷ absMov 0 0 ∷ rect 4 2 ∷ absMov 10 0
           ∷ rect (minus 4) 2 ∷ absMov 0 6 ∷ rect 4 (minus 2) ∷ absMov 10 6 ∷ rect (minus 4) (minus 2) ∷ halt ∷ [];
@@ -167,7 +183,9 @@ table =
     }
     -- RECT of no height, of no width, of one pixel; one high, one wide, both, also backwards; by XOR, with a pattern
     ∷ record {
-      frame = frame 1 32 6 2 0 0 32 6 152;
+      geometry = record { width = 32; height = 6; depth = 1 };
+      words = 2;
+      pane = record { left = 0; top = 0; width = 32; height = 6; start = 2; len = 152 };
       commands =
           defBitmap paneAddress 31 5 1 ∷ defColors 0xFFFF 0x0000 ∷ defLogicalOp 0xFFFF 6 ∷ opaque 0xDAE7 ∷ absMov 0 0 ∷ rect 5 0 ∷ absMov 0 2
           ∷ rect 0 3 ∷ absMov 2 2 ∷ rect 0 0 ∷ absMov 4 2 ∷ rect 5 1 ∷ absMov 11 2 ∷ rect 1 3 ∷ absMov 14 2 ∷ rect 1 1 ∷ absMov 22 3
@@ -187,7 +205,9 @@ table =
     }
     -- A clip from (3,1) to (9,3), both corners in, cuts a LINE, a RECT and a scan line, and lets POINTs stand in its corners
     ∷ record {
-      frame = frame 1 16 5 1 1 0 14 5 112;
+      geometry = record { width = 16; height = 5; depth = 1 };
+      words = 1;
+      pane = record { left = 1; top = 0; width = 14; height = 5; start = 2; len = 112 };
       commands =
           defBitmap paneAddress 13 4 1 ∷ defColors 0xFFFF 0x0000 ∷ defClipRect 3 1 9 3 ∷ rect 11 2 ∷ line 12 4 ∷ absMov 0 0 ∷ scanLines 0x60 1
           ∷ absMov 9 1 ∷ point 0 0 ∷ point 0 2 ∷ halt ∷ [];
@@ -205,7 +225,9 @@ table =
     }
     -- A maximum below its minimum lets nothing be drawn
     ∷ record {
-      frame = frame 1 16 3 1 0 0 16 3 64;
+      geometry = record { width = 16; height = 3; depth = 1 };
+      words = 1;
+      pane = record { left = 0; top = 0; width = 16; height = 3; start = 2; len = 64 };
       commands =
           defBitmap paneAddress 15 2 1 ∷ defColors 0xFFFF 0x0000 ∷ defClipRect 5 1 4 1 ∷ line 9 2 ∷ defClipRect 0 2 15 1
           ∷ line (minus 9) (minus 2) ∷ halt ∷ [];
@@ -217,7 +239,9 @@ table =
     }
     -- LINE from −32768 by −32768 reaches −65536: its pixels are not wrapped, its end is
     ∷ record {
-      frame = frame 1 16 1 1 0 0 16 1 40;
+      geometry = record { width = 16; height = 1; depth = 1 };
+      words = 1;
+      pane = record { left = 0; top = 0; width = 16; height = 1; start = 2; len = 40 };
       commands =
           defBitmap paneAddress 15 0 1 ∷ defColors 0xFFFF 0x0000 ∷ absMov (minus 32768) 0 ∷ line (minus 32768) 0 ∷ halt ∷ [];
       pieces = [];

@@ -7,13 +7,15 @@ use lib.IntN.{pos}
 use Rattle.model.specs.Bitmaps.{paneAddress}
 use Rattle.model.proofs.Computing.{machine}
 use Rattle.model.proofs.Listings.{nop, halt, link, call, defBitmap, defClipRect, defColors, absMov, relMov, point, line, bytes}
-use Rattle.model.proofs.Scripts.{Picture, frame, piece, blank, ended, outcomes, expectations}
+use Rattle.model.proofs.Scripts.{Picture, piece, blank, ended, outcomes, expectations}
 
 abbrev table : List Picture
 table =
     -- CALL twice, the second with a CALL of its own in it, and LINK over a list that would fault; each list draws a POINT further on
     record {
-      frame = frame 1 16 1 1 0 0 16 1 100;
+      geometry = record { width = 16; height = 1; depth = 1 };
+      words = 1;
+      pane = record { left = 0; top = 0; width = 16; height = 1; start = 2; len = 100 };
       commands =
           defBitmap paneAddress 15 0 1 ∷ defColors 0xFFFF 0x0000 ∷ call 0x40 ∷ nop ∷ call 0x50 ∷ link 0x2A ∷ (0xFF00 ∷ []) ∷ (0xFF00 ∷ [])
           ∷ point 5 0 ∷ halt ∷ [];
@@ -30,7 +32,9 @@ table =
     }
     -- Reserved bits do not count: those of the first word, and those of an upper address word
     ∷ record {
-      frame = frame 1 16 1 1 0 0 16 1 64;
+      geometry = record { width = 16; height = 1; depth = 1 };
+      words = 1;
+      pane = record { left = 0; top = 0; width = 16; height = 1; start = 2; len = 64 };
       commands =
           (0x1AFE ∷ 0x0000 ∷ 0xFFE0 ∷ 0x000F ∷ 0x0000 ∷ 0x0001 ∷ []) ∷ (0x3D80 ∷ 0xFFFF ∷ 0x0000 ∷ []) ∷ (0x02AA ∷ 0x0018 ∷ 0x1240 ∷ [])
           ∷ (0x5354 ∷ 0x0003 ∷ 0x0000 ∷ []) ∷ halt ∷ [];
@@ -44,7 +48,9 @@ table =
     }
     -- A list that draws over a command still to come: LINE sets all bits of the dx of POINT, which moves by −1 then
     ∷ record {
-      frame = frame 1 16 1 1 0 0 16 1 64;
+      geometry = record { width = 16; height = 1; depth = 1 };
+      words = 1;
+      pane = record { left = 0; top = 0; width = 16; height = 1; start = 2; len = 64 };
       commands =
           defBitmap 0x2C 15 0 1 ∷ defColors 0xFFFF 0x0000 ∷ line 15 0 ∷ defBitmap paneAddress 15 0 1 ∷ absMov 4 0 ∷ point 0 0 ∷ halt ∷ [];
       pieces = [];
@@ -57,7 +63,9 @@ table =
     }
     -- DEF_BITMAP keeps the position and sets the clip to the whole bitmap anew
     ∷ record {
-      frame = frame 1 16 1 1 0 0 16 1 64;
+      geometry = record { width = 16; height = 1; depth = 1 };
+      words = 1;
+      pane = record { left = 0; top = 0; width = 16; height = 1; start = 2; len = 64 };
       commands =
           defBitmap paneAddress 15 0 1 ∷ defColors 0xFFFF 0x0000 ∷ defClipRect 3 0 5 0 ∷ relMov 4 0 ∷ defBitmap paneAddress 15 0 1 ∷ line 8 0
           ∷ halt ∷ [];

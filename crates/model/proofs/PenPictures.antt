@@ -7,13 +7,15 @@ use lib.IntN.{pos}
 use Rattle.model.specs.Bitmaps.{paneAddress}
 use Rattle.model.proofs.Computing.{machine}
 use Rattle.model.proofs.Listings.{minus, halt, defBitmap, defClipRect, defColors, defLogicalOp, opaque, transparent, enterPick, exitPick, absMov, line}
-use Rattle.model.proofs.Scripts.{Picture, frame, blank, ended, outcomes, expectations}
+use Rattle.model.proofs.Scripts.{Picture, blank, ended, outcomes, expectations}
 
 abbrev table : List Picture
 table =
     -- Depth 1: colours and mask by the bits of the word where the pixel lies, so by the screen's columns; the pane begins at column 3
     record {
-      frame = frame 1 24 2 2 3 0 19 2 72;
+      geometry = record { width = 24; height = 2; depth = 1 };
+      words = 2;
+      pane = record { left = 3; top = 0; width = 19; height = 2; start = 2; len = 72 };
       commands =
           defBitmap paneAddress 18 1 1 ∷ defColors 0x00FF 0xFF00 ∷ line 18 0 ∷ defLogicalOp 0x3333 5 ∷ defColors 0xFFFF 0x0000 ∷ absMov 0 1
           ∷ line 18 0 ∷ halt ∷ [];
@@ -28,7 +30,9 @@ table =
     }
     -- Depth 2: a colour of eight different pixels; background where the pattern has 0
     ∷ record {
-      frame = frame 2 20 1 3 3 0 15 1 40;
+      geometry = record { width = 20; height = 1; depth = 2 };
+      words = 3;
+      pane = record { left = 3; top = 0; width = 15; height = 1; start = 2; len = 40 };
       commands =
           defBitmap paneAddress 14 0 2 ∷ defColors 0x1BE4 0xFF00 ∷ opaque 0xF5F5 ∷ line 14 0 ∷ halt ∷ [];
       pieces = [];
@@ -41,7 +45,9 @@ table =
     }
     -- Depth 4: XOR under a mask of one pixel's bits; the code's low four bits count
     ∷ record {
-      frame = frame 4 10 2 3 1 0 8 2 64;
+      geometry = record { width = 10; height = 2; depth = 4 };
+      words = 3;
+      pane = record { left = 1; top = 0; width = 8; height = 2; start = 2; len = 64 };
       commands =
           defBitmap paneAddress 7 1 4 ∷ defColors 0x1234 0x0000 ∷ defLogicalOp 0xF0F0 65526 ∷ line 7 0 ∷ defLogicalOp 0x137F 10 ∷ absMov 0 1
           ∷ line 7 0 ∷ halt ∷ [];
@@ -59,7 +65,9 @@ table =
     }
     -- Depth 8: even and odd columns take the high and the low byte of the colour
     ∷ record {
-      frame = frame 8 6 3 3 1 1 4 2 64;
+      geometry = record { width = 6; height = 3; depth = 8 };
+      words = 3;
+      pane = record { left = 1; top = 1; width = 4; height = 2; start = 2; len = 64 };
       commands =
           defBitmap paneAddress 3 1 8 ∷ defColors 0x12AB 0x0000 ∷ line 3 0 ∷ defLogicalOp 0x0FF0 7 ∷ absMov 3 1 ∷ line (minus 3) 0 ∷ halt ∷ [];
       pieces = [];
@@ -78,7 +86,9 @@ table =
     }
     -- An operation other than "replace" on pixels of the background and none on those that transparency leaves out
     ∷ record {
-      frame = frame 2 8 2 1 0 0 8 2 64;
+      geometry = record { width = 8; height = 2; depth = 2 };
+      words = 1;
+      pane = record { left = 0; top = 0; width = 8; height = 2; start = 2; len = 64 };
       commands =
           defBitmap paneAddress 7 1 2 ∷ defColors 0xAAAA 0x5555 ∷ defLogicalOp 0xFFFF 6 ∷ opaque 0xCCCC ∷ line 7 0 ∷ transparent 0xCCCC
           ∷ absMov 0 1 ∷ line 7 0 ∷ halt ∷ [];
@@ -96,7 +106,9 @@ table =
     }
     -- Pick mode: nothing is drawn, everything else happens; a pixel in the clip sets the flag, though mask and operation would keep it
     ∷ record {
-      frame = frame 1 16 2 1 0 0 16 2 80;
+      geometry = record { width = 16; height = 2; depth = 1 };
+      words = 1;
+      pane = record { left = 0; top = 0; width = 16; height = 2; start = 2; len = 80 };
       commands =
           defBitmap paneAddress 15 1 1 ∷ defColors 0xFFFF 0x0000 ∷ defLogicalOp 0x0000 3 ∷ enterPick ∷ defClipRect 4 0 6 1 ∷ line 4 0 ∷ halt ∷ [];
       pieces = [];
@@ -107,7 +119,9 @@ table =
     }
     -- Pick mode: pixels outside the clip and zeros under transparency do not set the flag
     ∷ record {
-      frame = frame 1 16 2 1 0 0 16 2 80;
+      geometry = record { width = 16; height = 2; depth = 1 };
+      words = 1;
+      pane = record { left = 0; top = 0; width = 16; height = 2; start = 2; len = 80 };
       commands =
           defBitmap paneAddress 15 1 1 ∷ defColors 0xFFFF 0x0000 ∷ enterPick ∷ defClipRect 4 0 6 1 ∷ line 3 0 ∷ absMov 7 1 ∷ line 5 0
           ∷ transparent 0xF1FF ∷ absMov 0 0 ∷ line 7 0 ∷ halt ∷ [];
@@ -119,7 +133,9 @@ table =
     }
     -- ENTER_PICK clears the flag, EXIT_PICK keeps it; after it pixels are drawn again, and leave the flag alone
     ∷ record {
-      frame = frame 1 16 2 1 0 0 16 2 80;
+      geometry = record { width = 16; height = 2; depth = 1 };
+      words = 1;
+      pane = record { left = 0; top = 0; width = 16; height = 2; start = 2; len = 80 };
       commands =
           defBitmap paneAddress 15 1 1 ∷ defColors 0xFFFF 0x0000 ∷ enterPick ∷ line 3 0 ∷ enterPick ∷ exitPick ∷ line 0 1 ∷ halt ∷ [];
       pieces = [];
@@ -133,7 +149,9 @@ table =
     }
     -- The flag stays after EXIT_PICK, and a later drawing in pick mode that meets nothing does not clear it
     ∷ record {
-      frame = frame 1 16 2 1 0 0 16 2 80;
+      geometry = record { width = 16; height = 2; depth = 1 };
+      words = 1;
+      pane = record { left = 0; top = 0; width = 16; height = 2; start = 2; len = 80 };
       commands =
           defBitmap paneAddress 15 1 1 ∷ defColors 0xFFFF 0x0000 ∷ enterPick ∷ line 3 0 ∷ line 0 9 ∷ line 0 3 ∷ exitPick ∷ absMov 2 1 ∷ line 2 0
           ∷ halt ∷ [];

@@ -56,17 +56,13 @@ laid (p ∷ ps) store = laid ps (take (p .address) store ++ (p .bytes ++ drop (p
 
 -- ## Pictures
 
--- a screen and the one pane on it
-pub record Frame : Type 0 where
-  -- words of a row of the screen
-  pub words : ℕ
-  pub geometry : Geometry
-  pub pane : Row
-
--- what is run: a list at the store's first byte, and other pieces of the store; the screen before it; then run's and look's replies, the
--- screen, and pieces of the store that are new
+-- a screen and the one pane on it; what is run, a list at the store's first byte, and other pieces of the store; the screen before it; then
+-- run's and look's replies, the screen after it, and pieces of the store that are new
 pub record Picture : Type 0 where
-  pub frame : Frame
+  pub geometry : Geometry
+  -- the words of a row of the screen
+  pub words : ℕ
+  pub pane : Row
   pub commands : List (List ℕ)
   pub pieces : List Piece
   pub before : List ℕ
@@ -79,13 +75,13 @@ abbrev margin : List ℕ
 margin = 0xEE ∷ 0xEE ∷ []
 
 abbrev storeBefore : Picture → List ℕ
-storeBefore p = laid (p .pieces) (laid (piece 0 (listing (p .commands)) ∷ []) (replicate (p .frame .pane .len) 0))
+storeBefore p = laid (p .pieces) (laid (piece 0 (listing (p .commands)) ∷ []) (replicate (p .pane .len) 0))
 
 abbrev pub lent : Picture → State
 lent p =
     record {
-      console = record { geometry = p .frame .geometry; count = 1; rows = p .frame .pane ∷ []; panes = [] };
-      screen = painted (p .frame .words) (p .before);
+      console = record { geometry = p .geometry; count = 1; rows = p .pane ∷ []; panes = [] };
+      screen = painted (p .words) (p .before);
       stores = margin ++ (storeBefore p ++ margin);
     }
 
@@ -109,7 +105,7 @@ abbrev pub expected : Picture → Outcome
 expected p =
     record {
       replies = (pos 0 ∷ []) ∷ (pos 0 ∷ []) ∷ p .replies;
-      screen = painted (p .frame .words) (p .shows);
+      screen = painted (p .words) (p .shows);
       stores = margin ++ (laid (p .stored) (storeBefore p) ++ margin);
     }
 
@@ -123,15 +119,6 @@ expectations [] = []
 expectations (p ∷ ps) = expected p ∷ expectations ps
 
 -- ## Short forms for a picture's parts
-
--- depth, width and height of the screen, its words in a row; the pane's left, top, width and height; the store's length
-abbrev pub frame : ℕ → ℕ → ℕ → ℕ → ℕ → ℕ → ℕ → ℕ → ℕ → Frame
-frame depth width height words l t w h len =
-    record {
-      words = words;
-      geometry = record { width = width; height = height; depth = depth };
-      pane = record { left = l; top = t; width = w; height = h; start = 2; len = len };
-    }
 
 abbrev pub blank : ℕ → List ℕ
 blank n = replicate n 0
