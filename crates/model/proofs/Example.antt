@@ -1,6 +1,6 @@
 -- The script example (01, "The script program") as a theorem about set-up and the calls: what each line replies, and what all of them leave.
 use mathlib.Core.Path.{_≡_, refl}
-use mathlib.Core.List.{List, [], _∷_, _++_}
+use mathlib.Core.List.{List, [], _∷_}
 use lib.IntN.{pos}
 use lib.ListN.{replicate}
 use Rattle.model.specs.Calls.{State, Request, on, put, start, run, look, pixel}

@@ -26,3 +26,6 @@ pub mod FaultCases
 pub mod DrawFaultCases
 pub mod SetupCases
 pub mod RecordCases
+pub mod CallCases
+pub mod StateCases
+pub mod TableCases

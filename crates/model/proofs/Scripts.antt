@@ -1,7 +1,7 @@
 -- What tests are made of: what a list of calls is told and leaves, and pictures: a list run on a console with one pane, what it shows before
 -- and after.
 use mathlib.Core.List.{List, [], _∷_, _++_}
-use Prim.Native.Nat.{ℕ, zero, suc, _+_, _*_, _/_, _%_}
+use Prim.Native.Nat.{ℕ, zero, suc, _+_, _/_, _%_}
 use lib.IntN.{ℤ, pos}
 use lib.ListN.{length, replicate, take, drop}
 use Rattle.model.specs.Bitmaps.{Geometry, Row}
