@@ -7,8 +7,9 @@ use lib.IntN.{pos}
 use Rattle.model.specs.Bitmaps.{paneAddress}
 use Rattle.model.specs.Figures.{neg}
 use Rattle.model.proofs.Computing.{machine}
-use Rattle.model.proofs.Listings.{minus, halt, defBitmap, defClipRect, defColors, opaque, transparent, defSpace, defCharOrient, wordFont, byteFont, enterPick, absMov, char, charTransparent, bytes}
-use Rattle.model.proofs.Scripts.{Picture, piece, painted, blank, ended, outcomes, expectations}
+use Rattle.model.proofs.Listings.{minus, halt, defBitmap, defClipRect, defColors, opaque, transparent, defSpace, defCharOrient, wordFont, byteFont, enterPick, exitPick, absMov, char, charTransparent, bytes}
+use Rattle.model.proofs.Scripts.{piece}
+use Rattle.model.proofs.Pictures.{Picture, painted, blank, ended, outcomes, expectations}
 
 abbrev table : List Picture
 table =
@@ -48,13 +49,14 @@ table =
           [];
       stored = [];
     }
-    -- A string in word mode: S keeps the position, T sets the trap flag and the string goes on; a descriptor's other bits do not count
+    -- A string in word mode: S keeps the position, T sets the trap flag, which stays, and the string goes on; a descriptor's other bits do not count
     ∷ record {
       geometry = record { width = 16; height = 4; depth = 1 };
       words = 1;
       pane = record { left = 1; top = 0; width = 15; height = 4; start = 2; len = 112 };
       commands =
-          defBitmap paneAddress 14 3 1 ∷ defColors 0xFFFF 0x0000 ∷ wordFont 0x40 ∷ defSpace 1 ∷ absMov 0 1 ∷ charTransparent 0x38 4 ∷ halt ∷ [];
+          defBitmap paneAddress 14 3 1 ∷ defColors 0xFFFF 0x0000 ∷ wordFont 0x40 ∷ defSpace 1 ∷ absMov 0 1 ∷ charTransparent 0x38 4 ∷ enterPick
+          ∷ exitPick ∷ halt ∷ [];
       pieces =
           piece 0x38 (bytes (0x0008 ∷ 0x0000 ∷ 0x0010 ∷ 0x0008 ∷ [])) ∷
           piece 0x40 (bytes (0x4002 ∷ 0x0005 ∷ [])) ∷
@@ -62,7 +64,7 @@ table =
           piece 0x60 (bytes (0xB0F1 ∷ 0xFFFE ∷ [])) ∷
           [];
       before = blank 4;
-      replies = ended 6 42 (pos 11) (pos 1) 0 1;
+      replies = ended 8 46 (pos 11) (pos 1) 0 1;
       shows =
           0b00000000_00000000 ∷
           0b00110101_01100000 ∷

@@ -7,7 +7,8 @@ use lib.IntN.{pos}
 use Rattle.model.specs.Bitmaps.{paneAddress}
 use Rattle.model.proofs.Computing.{machine}
 use Rattle.model.proofs.Listings.{minus, halt, defBitmap, defClipRect, defColors, defLogicalOp, transparent, defSpace, absMov, bitBlt, bitBltM}
-use Rattle.model.proofs.Scripts.{Picture, piece, painted, blank, ended, outcomes, expectations}
+use Rattle.model.proofs.Scripts.{piece}
+use Rattle.model.proofs.Pictures.{Picture, painted, blank, ended, outcomes, expectations}
 
 abbrev table : List Picture
 table =
@@ -92,6 +93,23 @@ table =
           0x129A_BCD8 ∷
           0x9A24_68A0 ∷
           0x2468_ACE1 ∷
+          [];
+      stored = [];
+    }
+    -- by spacing 32767 and dx 3 from 32767: the position wraps to 1
+    ∷ record {
+      geometry = record { width = 8; height = 1; depth = 4 };
+      words = 2;
+      pane = record { left = 0; top = 0; width = 8; height = 1; start = 2; len = 40 };
+      commands =
+          defBitmap paneAddress 7 0 4 ∷ defSpace 32767 ∷ absMov 32767 0 ∷ bitBlt 0 0 3 0 ∷ halt ∷ [];
+      pieces = [];
+      before =
+          0x1234_5678 ∷
+          [];
+      replies = ended 4 32 (pos 1) (pos 0) 0 0;
+      shows =
+          0x1234_5678 ∷
           [];
       stored = [];
     }

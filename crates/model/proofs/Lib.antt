@@ -15,6 +15,7 @@ pub mod QuietLaws
 pub mod Computing
 pub mod Listings
 pub mod Scripts
+pub mod Pictures
 pub mod Figures
 pub mod Example
 pub mod LinePictures

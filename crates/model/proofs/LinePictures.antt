@@ -5,10 +5,16 @@ use mathlib.Core.Path.{_≡_, refl}
 use mathlib.Core.List.{List, [], _∷_}
 use lib.IntN.{pos}
 use Rattle.model.specs.Bitmaps.{paneAddress}
-use Rattle.model.specs.Figures.{neg}
+use Rattle.model.specs.Figures.{neg, masked}
+use lib.ListN.{getD}
+use Rattle.model.specs.Coordinates.{at}
+use Rattle.model.specs.Dots.{Drawing, dot}
+use Rattle.model.specs.Lines as lines
+use Rattle.model.specs.declared.Source.the-variants.{Nothing}
 use Rattle.model.proofs.Computing.{machine}
 use Rattle.model.proofs.Listings.{minus, halt, defBitmap, defClipRect, defColors, defLogicalOp, opaque, transparent, absMov, point, line, rect, polyline, scanLines, bytes}
-use Rattle.model.proofs.Scripts.{Picture, piece, blank, ended, outcomes, expectations}
+use Rattle.model.proofs.Scripts.{piece}
+use Rattle.model.proofs.Pictures.{Picture, blank, ended, outcomes, expectations}
 
 abbrev table : List Picture
 table =
@@ -203,6 +209,23 @@ table =
           [];
       stored = [];
     }
+    -- RECT with three sides outside the pane: their pixels count in the pattern, each once
+    ∷ record {
+      geometry = record { width = 16; height = 3; depth = 1 };
+      words = 1;
+      pane = record { left = 2; top = 1; width = 12; height = 2; start = 2; len = 40 };
+      commands =
+          defBitmap paneAddress 11 1 1 ∷ defColors 0xFFFF 0x0000 ∷ opaque 0x02CB ∷ absMov (minus 2) (minus 2) ∷ rect 4 3 ∷ halt ∷ [];
+      pieces = [];
+      before = blank 3;
+      replies = ended 5 34 (neg 2) (neg 2) 0 0;
+      shows =
+          0b00000000_00000000 ∷
+          0b00001000_00000000 ∷
+          0b00110000_00000000 ∷
+          [];
+      stored = [];
+    }
     -- A clip from (3,1) to (9,3), both corners in, cuts a LINE, a RECT and a scan line, and lets POINTs stand in its corners
     ∷ record {
       geometry = record { width = 16; height = 5; depth = 1 };
@@ -237,21 +260,22 @@ table =
       shows = blank 3;
       stored = [];
     }
-    -- LINE from −32768 by −32768 reaches −65536: its pixels are not wrapped, its end is
-    ∷ record {
-      geometry = record { width = 16; height = 1; depth = 1 };
-      words = 1;
-      pane = record { left = 0; top = 0; width = 16; height = 1; start = 2; len = 40 };
-      commands =
-          defBitmap paneAddress 15 0 1 ∷ defColors 0xFFFF 0x0000 ∷ absMov (minus 32768) 0 ∷ line (minus 32768) 0 ∷ halt ∷ [];
-      pieces = [];
-      before = blank 1;
-      replies = ended 4 30 (pos 0) (pos 0) 0 0;
-      shows = blank 1;
-      stored = [];
-    }
     ∷ []
 
 pub line-pictures : outcomes table ≡ expectations table
 unfolding machine outcomes
 line-pictures = refl
+
+-- ## Whole numbers
+
+-- LINE from −32768 by −32768: its last pixel is at −65536, not wrapped, and the position it leaves is
+abbrev farLine : Drawing
+farLine = lines.line (masked 0xFFFF) (record { x = 0x8000; y = 0 }) (neg 32768) (pos 0)
+
+pub line-unwrapped : getD (farLine .dots) 32768 (dot (at (pos 0) (pos 0)) Nothing) .place ≡ at (neg 65536) (pos 0)
+unfolding machine
+line-unwrapped = refl
+
+pub line-wrapped : farLine .position ≡ record { x = 0; y = 0 }
+unfolding machine
+line-wrapped = refl

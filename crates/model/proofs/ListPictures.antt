@@ -7,7 +7,8 @@ use lib.IntN.{pos}
 use Rattle.model.specs.Bitmaps.{paneAddress}
 use Rattle.model.proofs.Computing.{machine}
 use Rattle.model.proofs.Listings.{nop, halt, link, call, defBitmap, defClipRect, defColors, absMov, relMov, point, line, bytes}
-use Rattle.model.proofs.Scripts.{Picture, piece, blank, ended, outcomes, expectations}
+use Rattle.model.proofs.Scripts.{piece}
+use Rattle.model.proofs.Pictures.{Picture, blank, ended, outcomes, expectations}
 
 abbrev table : List Picture
 table =

@@ -7,7 +7,7 @@ use lib.IntN.{pos}
 use Rattle.model.specs.Bitmaps.{paneAddress}
 use Rattle.model.proofs.Computing.{machine}
 use Rattle.model.proofs.Listings.{minus, halt, defBitmap, defClipRect, defColors, defLogicalOp, opaque, transparent, enterPick, exitPick, absMov, line}
-use Rattle.model.proofs.Scripts.{Picture, blank, ended, outcomes, expectations}
+use Rattle.model.proofs.Pictures.{Picture, blank, ended, outcomes, expectations}
 
 abbrev table : List Picture
 table =
