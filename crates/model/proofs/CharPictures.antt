@@ -1,6 +1,6 @@
 -- Pictures of characters (01, CHAR): rotations, paths, both modes, S and T, clip, pick mode.
--- The expected pictures, positions and flags were worked out by a program of its own, written from the sentences of the paper and from 003, not from
--- these definitions; the small ones were also followed by hand.
+-- The expected values were worked out by a small program that was written from the sentences of the paper and from 003, and not from these
+-- definitions; the smaller pictures were followed by hand too.
 use mathlib.Core.Path.{_≡_, refl}
 use mathlib.Core.List.{List, [], _∷_}
 use lib.IntN.{pos}
@@ -129,8 +129,7 @@ table =
       geometry = record { width = 16; height = 4; depth = 1 };
       words = 1;
       pane = record { left = 2; top = 0; width = 10; height = 4; start = 2; len = 86 };
-      commands =
-          defBitmap paneAddress 9 3 1 ∷ defColors 0xFFFF 0x0000 ∷ wordFont 0x34 ∷ absMov 1 (minus 2) ∷ char 0x32 1 ∷ halt ∷ [];
+      commands = defBitmap paneAddress 9 3 1 ∷ defColors 0xFFFF 0x0000 ∷ wordFont 0x34 ∷ absMov 1 (minus 2) ∷ char 0x32 1 ∷ halt ∷ [];
       pieces =
           piece 0x32 (bytes (0x0000 ∷ [])) ∷
           piece 0x34 (bytes (0x0F0F ∷ 0xFFFF ∷ 0xFFFF ∷ 0x8001 ∷ 0xC003 ∷ 0xA005 ∷ 0x9009 ∷ 0x8811 ∷ 0x8421 ∷ [])) ∷
@@ -171,13 +170,12 @@ table =
           [];
       stored = [];
     }
-    -- In pick mode a cell's zeros count if opaque, not if transparent, as here; position and trap flag go on as ever
+    -- Pick mode: a cell's zeros under transparency do not count; position and trap flag go on as ever
     ∷ record {
       geometry = record { width = 16; height = 2; depth = 1 };
       words = 1;
       pane = record { left = 0; top = 0; width = 16; height = 2; start = 2; len = 76 };
-      commands =
-          defBitmap paneAddress 15 1 1 ∷ defColors 0xFFFF 0x0000 ∷ wordFont 0x48 ∷ enterPick ∷ charTransparent 0x46 1 ∷ halt ∷ [];
+      commands = defBitmap paneAddress 15 1 1 ∷ defColors 0xFFFF 0x0000 ∷ wordFont 0x48 ∷ enterPick ∷ charTransparent 0x46 1 ∷ halt ∷ [];
       pieces =
           piece 0x46 (bytes (0x0000 ∷ [])) ∷
           piece 0x48 (bytes (0x8003 ∷ 0x0000 ∷ [])) ∷
@@ -187,13 +185,12 @@ table =
       shows = blank 2;
       stored = [];
     }
-    -- and here they count
+    -- The same, opaque: now they count
     ∷ record {
       geometry = record { width = 16; height = 2; depth = 1 };
       words = 1;
       pane = record { left = 0; top = 0; width = 16; height = 2; start = 2; len = 76 };
-      commands =
-          defBitmap paneAddress 15 1 1 ∷ defColors 0xFFFF 0x0000 ∷ wordFont 0x48 ∷ enterPick ∷ char 0x46 1 ∷ halt ∷ [];
+      commands = defBitmap paneAddress 15 1 1 ∷ defColors 0xFFFF 0x0000 ∷ wordFont 0x48 ∷ enterPick ∷ char 0x46 1 ∷ halt ∷ [];
       pieces =
           piece 0x46 (bytes (0x0000 ∷ [])) ∷
           piece 0x48 (bytes (0x4003 ∷ 0x0000 ∷ [])) ∷
@@ -208,8 +205,7 @@ table =
       geometry = record { width = 16; height = 1; depth = 1 };
       words = 1;
       pane = record { left = 0; top = 0; width = 16; height = 1; start = 2; len = 80 };
-      commands =
-          defBitmap 0x40 5 1 4 ∷ defColors 0x1234 0xABCD ∷ wordFont 0x4A ∷ absMov 1 0 ∷ char 0x48 1 ∷ halt ∷ [];
+      commands = defBitmap 0x40 5 1 4 ∷ defColors 0x1234 0xABCD ∷ wordFont 0x4A ∷ absMov 1 0 ∷ char 0x48 1 ∷ halt ∷ [];
       pieces =
           piece 0x48 (bytes (0x0000 ∷ [])) ∷
           piece 0x4A (bytes (0x0104 ∷ 0x0015 ∷ 0x000A ∷ [])) ∷

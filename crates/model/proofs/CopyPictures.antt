@@ -1,6 +1,6 @@
 -- Pictures of copies (01, "Pixels"): BIT_BLT over itself in each direction, BIT_BLT_M between the pane and the store.
--- The expected pictures, positions and flags were worked out by a program of its own, written from the sentences of the paper and from 003, not from
--- these definitions; the small ones were also followed by hand.
+-- The expected values were worked out by a small program that was written from the sentences of the paper and from 003, and not from these
+-- definitions; the smaller pictures were followed by hand too.
 use mathlib.Core.Path.{_≡_, refl}
 use mathlib.Core.List.{List, [], _∷_}
 use lib.IntN.{pos}
@@ -17,8 +17,7 @@ table =
       geometry = record { width = 8; height = 3; depth = 4 };
       words = 2;
       pane = record { left = 0; top = 0; width = 8; height = 3; start = 2; len = 40 };
-      commands =
-          defBitmap paneAddress 7 2 4 ∷ absMov 1 1 ∷ bitBlt 0 0 5 1 ∷ halt ∷ [];
+      commands = defBitmap paneAddress 7 2 4 ∷ absMov 1 1 ∷ bitBlt 0 0 5 1 ∷ halt ∷ [];
       pieces = [];
       before =
           0x1234_5678 ∷
@@ -33,13 +32,12 @@ table =
           [];
       stored = [];
     }
-    -- left and up
+    -- BIT_BLT over itself, left and up
     ∷ record {
       geometry = record { width = 8; height = 3; depth = 4 };
       words = 2;
       pane = record { left = 0; top = 0; width = 8; height = 3; start = 2; len = 40 };
-      commands =
-          defBitmap paneAddress 7 2 4 ∷ absMov 0 0 ∷ bitBlt 1 1 5 1 ∷ halt ∷ [];
+      commands = defBitmap paneAddress 7 2 4 ∷ absMov 0 0 ∷ bitBlt 1 1 5 1 ∷ halt ∷ [];
       pieces = [];
       before =
           0x1234_5678 ∷
@@ -54,13 +52,12 @@ table =
           [];
       stored = [];
     }
-    -- left and down, partly outside the pane
+    -- BIT_BLT over itself, left and down, partly outside the pane
     ∷ record {
       geometry = record { width = 8; height = 3; depth = 4 };
       words = 2;
       pane = record { left = 0; top = 0; width = 8; height = 3; start = 2; len = 40 };
-      commands =
-          defBitmap paneAddress 7 2 4 ∷ absMov (minus 1) 1 ∷ bitBlt 1 0 6 2 ∷ halt ∷ [];
+      commands = defBitmap paneAddress 7 2 4 ∷ absMov (minus 1) 1 ∷ bitBlt 1 0 6 2 ∷ halt ∷ [];
       pieces = [];
       before =
           0x1234_5678 ∷
@@ -75,13 +72,12 @@ table =
           [];
       stored = [];
     }
-    -- right and up; the position moves by dx and the spacing, −3
+    -- BIT_BLT over itself, right and up; the position moves by dx and the spacing, −3
     ∷ record {
       geometry = record { width = 8; height = 3; depth = 4 };
       words = 2;
       pane = record { left = 0; top = 0; width = 8; height = 3; start = 2; len = 40 };
-      commands =
-          defBitmap paneAddress 7 2 4 ∷ defSpace (minus 3) ∷ absMov 2 0 ∷ bitBlt 0 1 4 1 ∷ halt ∷ [];
+      commands = defBitmap paneAddress 7 2 4 ∷ defSpace (minus 3) ∷ absMov 2 0 ∷ bitBlt 0 1 4 1 ∷ halt ∷ [];
       pieces = [];
       before =
           0x1234_5678 ∷
@@ -96,30 +92,24 @@ table =
           [];
       stored = [];
     }
-    -- by spacing 32767 and dx 3 from 32767: the position wraps to 1
+    -- BIT_BLT at 32767, nothing of it in the pane, by dx 3 and spacing 32767: the position wraps to 1
     ∷ record {
       geometry = record { width = 8; height = 1; depth = 4 };
       words = 2;
       pane = record { left = 0; top = 0; width = 8; height = 1; start = 2; len = 40 };
-      commands =
-          defBitmap paneAddress 7 0 4 ∷ defSpace 32767 ∷ absMov 32767 0 ∷ bitBlt 0 0 3 0 ∷ halt ∷ [];
+      commands = defBitmap paneAddress 7 0 4 ∷ defSpace 32767 ∷ absMov 32767 0 ∷ bitBlt 0 0 3 0 ∷ halt ∷ [];
       pieces = [];
-      before =
-          0x1234_5678 ∷
-          [];
+      before = 0x1234_5678 ∷ [];
       replies = ended 4 32 (pos 1) (pos 0) 0 0;
-      shows =
-          0x1234_5678 ∷
-          [];
+      shows = 0x1234_5678 ∷ [];
       stored = [];
     }
-    -- right by one, a single row: every source is read first. Then left by one
+    -- BIT_BLT of one row right by one, every source read first; then left by one
     ∷ record {
       geometry = record { width = 8; height = 2; depth = 4 };
       words = 2;
       pane = record { left = 0; top = 0; width = 8; height = 2; start = 2; len = 60 };
-      commands =
-          defBitmap paneAddress 7 1 4 ∷ absMov 1 0 ∷ bitBlt 0 0 6 0 ∷ absMov 0 1 ∷ bitBlt 1 1 6 0 ∷ halt ∷ [];
+      commands = defBitmap paneAddress 7 1 4 ∷ absMov 1 0 ∷ bitBlt 0 0 6 0 ∷ absMov 0 1 ∷ bitBlt 1 1 6 0 ∷ halt ∷ [];
       pieces = [];
       before =
           0x1234_5678 ∷
@@ -181,8 +171,7 @@ table =
       geometry = record { width = 16; height = 1; depth = 1 };
       words = 1;
       pane = record { left = 0; top = 0; width = 16; height = 1; start = 2; len = 60 };
-      commands =
-          defBitmap 0x30 2 2 8 ∷ absMov 1 0 ∷ bitBlt 0 0 1 2 ∷ halt ∷ [];
+      commands = defBitmap 0x30 2 2 8 ∷ absMov 1 0 ∷ bitBlt 0 0 1 2 ∷ halt ∷ [];
       pieces = piece 0x30 (painted 2 (0x01_02_03_EE ∷ 0x04_05_06_EE ∷ 0x07_08_09_EE ∷ [])) ∷ [];
       before = blank 1;
       replies = ended 3 28 (pos 2) (pos 0) 0 0;
@@ -194,21 +183,19 @@ table =
       geometry = record { width = 16; height = 1; depth = 1 };
       words = 1;
       pane = record { left = 0; top = 0; width = 16; height = 1; start = 2; len = 100 };
-      commands =
-          defBitmap 0x48 3 1 4 ∷ absMov 0 0 ∷ bitBltM 0x40 7 2 1 0 3 1 ∷ halt ∷ [];
+      commands = defBitmap 0x48 3 1 4 ∷ absMov 0 0 ∷ bitBltM 0x40 7 2 1 0 3 1 ∷ halt ∷ [];
       pieces = piece 0x40 (painted 2 (0x1234_5678 ∷ 0x9ABC_DEF0 ∷ 0x2468_ACE1 ∷ [])) ∷ [];
       before = blank 1;
       replies = ended 3 36 (pos 3) (pos 0) 0 0;
       shows = blank 1;
       stored = piece 0x40 (painted 2 (0x1234_5678 ∷ 0x9ABC_DEF0 ∷ 0x2345_ABCD ∷ [])) ∷ [];
     }
-    -- A source in the active bitmap's last row but one: only the rows copied count
+    -- BIT_BLT_M where the active bitmap lies between rows of the source's bitmap: only the words of the rows copied count
     ∷ record {
       geometry = record { width = 16; height = 1; depth = 1 };
       words = 1;
       pane = record { left = 0; top = 0; width = 16; height = 1; start = 2; len = 100 };
-      commands =
-          defBitmap 0x48 3 0 4 ∷ absMov 3 0 ∷ bitBltM 0x40 3 6 2 5 1 1 ∷ halt ∷ [];
+      commands = defBitmap 0x48 3 0 4 ∷ absMov 3 0 ∷ bitBltM 0x40 3 6 2 5 1 1 ∷ halt ∷ [];
       pieces = piece 0x40 (painted 1 (0x1111 ∷ 0x2222 ∷ 0x3333 ∷ 0x4444 ∷ 0x0000 ∷ 0x5678 ∷ 0x9ABC ∷ [])) ∷ [];
       before = blank 1;
       replies = ended 3 36 (pos 4) (pos 0) 0 0;

@@ -1,6 +1,6 @@
 -- Pictures of lines (01, "Pixels"): LINE, POINT, POLYLINE, SCAN_LINES, RECT, and the clip that cuts them.
--- The expected pictures, positions and flags were worked out by a program of its own, written from the sentences of the paper and from 003, not from
--- these definitions; the small ones were also followed by hand.
+-- The expected values were worked out by a small program that was written from the sentences of the paper and from 003, and not from these
+-- definitions; the smaller pictures were followed by hand too.
 use mathlib.Core.Path.{_≡_, refl}
 use mathlib.Core.List.{List, [], _∷_}
 use lib.IntN.{pos}
@@ -112,14 +112,11 @@ table =
       geometry = record { width = 16; height = 1; depth = 1 };
       words = 1;
       pane = record { left = 0; top = 0; width = 16; height = 1; start = 2; len = 40 };
-      commands =
-          defBitmap paneAddress 15 0 1 ∷ defColors 0xFFFF 0x0000 ∷ absMov (minus 32768) 0 ∷ point (minus 32768) 0 ∷ halt ∷ [];
+      commands = defBitmap paneAddress 15 0 1 ∷ defColors 0xFFFF 0x0000 ∷ absMov (minus 32768) 0 ∷ point (minus 32768) 0 ∷ halt ∷ [];
       pieces = [];
       before = blank 1;
       replies = ended 4 30 (pos 0) (pos 0) 0 0;
-      shows =
-          0b10000000_00000000 ∷
-          [];
+      shows = 0b10000000_00000000 ∷ [];
       stored = [];
     }
     -- POLYLINE, the pattern begun anew at each of three lines; one leaves the pane. Then one of no lines
@@ -214,8 +211,7 @@ table =
       geometry = record { width = 16; height = 3; depth = 1 };
       words = 1;
       pane = record { left = 2; top = 1; width = 12; height = 2; start = 2; len = 40 };
-      commands =
-          defBitmap paneAddress 11 1 1 ∷ defColors 0xFFFF 0x0000 ∷ opaque 0x02CB ∷ absMov (minus 2) (minus 2) ∷ rect 4 3 ∷ halt ∷ [];
+      commands = defBitmap paneAddress 11 1 1 ∷ defColors 0xFFFF 0x0000 ∷ opaque 0x02CB ∷ absMov (minus 2) (minus 2) ∷ rect 4 3 ∷ halt ∷ [];
       pieces = [];
       before = blank 3;
       replies = ended 5 34 (neg 2) (neg 2) 0 0;

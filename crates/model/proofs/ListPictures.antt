@@ -1,6 +1,6 @@
 -- Pictures of how a list goes on (01, "One command"): CALL, RETURN, LINK, reserved bits, a list that draws over itself.
--- The expected pictures, positions and flags were worked out by a program of its own, written from the sentences of the paper and from 003, not from
--- these definitions; the small ones were also followed by hand.
+-- The expected values were worked out by a small program that was written from the sentences of the paper and from 003, and not from these
+-- definitions; the smaller pictures were followed by hand too.
 use mathlib.Core.Path.{_≡_, refl}
 use mathlib.Core.List.{List, [], _∷_}
 use lib.IntN.{pos}
@@ -26,9 +26,7 @@ table =
           [];
       before = blank 1;
       replies = ended 15 48 (pos 12) (pos 0) 0 0;
-      shows =
-          0b01011001_00001000 ∷
-          [];
+      shows = 0b01011001_00001000 ∷ [];
       stored = [];
     }
     -- Reserved bits do not count: those of the first word, and those of an upper address word
@@ -42,9 +40,7 @@ table =
       pieces = [];
       before = blank 1;
       replies = ended 4 30 (pos 3) (pos 0) 0 0;
-      shows =
-          0b00010000_00000000 ∷
-          [];
+      shows = 0b00010000_00000000 ∷ [];
       stored = [];
     }
     -- A list that draws over a command still to come: LINE sets all bits of the dx of POINT, which moves by −1 then
@@ -52,14 +48,11 @@ table =
       geometry = record { width = 16; height = 1; depth = 1 };
       words = 1;
       pane = record { left = 0; top = 0; width = 16; height = 1; start = 2; len = 64 };
-      commands =
-          defBitmap 0x2C 15 0 1 ∷ defColors 0xFFFF 0x0000 ∷ line 15 0 ∷ defBitmap paneAddress 15 0 1 ∷ absMov 4 0 ∷ point 0 0 ∷ halt ∷ [];
+      commands = defBitmap 0x2C 15 0 1 ∷ defColors 0xFFFF 0x0000 ∷ line 15 0 ∷ defBitmap paneAddress 15 0 1 ∷ absMov 4 0 ∷ point 0 0 ∷ halt ∷ [];
       pieces = [];
       before = blank 1;
       replies = ended 6 48 (pos 3) (pos 0) 0 0;
-      shows =
-          0b00010000_00000000 ∷
-          [];
+      shows = 0b00010000_00000000 ∷ [];
       stored = piece 0x2C (bytes (0xFFFF ∷ [])) ∷ [];
     }
     -- DEF_BITMAP keeps the position and sets the clip to the whole bitmap anew
@@ -73,9 +66,7 @@ table =
       pieces = [];
       before = blank 1;
       replies = ended 6 52 (pos 12) (pos 0) 0 0;
-      shows =
-          0b00001111_11111000 ∷
-          [];
+      shows = 0b00001111_11111000 ∷ [];
       stored = [];
     }
     ∷ []

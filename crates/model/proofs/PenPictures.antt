@@ -1,6 +1,6 @@
 -- Pictures of colours, masks and operations at each depth, and of pick mode (01, "Pixels").
--- The expected pictures, positions and flags were worked out by a program of its own, written from the sentences of the paper and from 003, not from
--- these definitions; the small ones were also followed by hand.
+-- The expected values were worked out by a small program that was written from the sentences of the paper and from 003, and not from these
+-- definitions; the smaller pictures were followed by hand too.
 use mathlib.Core.Path.{_≡_, refl}
 use mathlib.Core.List.{List, [], _∷_}
 use lib.IntN.{pos}
@@ -33,14 +33,11 @@ table =
       geometry = record { width = 20; height = 1; depth = 2 };
       words = 3;
       pane = record { left = 3; top = 0; width = 15; height = 1; start = 2; len = 40 };
-      commands =
-          defBitmap paneAddress 14 0 2 ∷ defColors 0x1BE4 0xFF00 ∷ opaque 0xF5F5 ∷ line 14 0 ∷ halt ∷ [];
+      commands = defBitmap paneAddress 14 0 2 ∷ defColors 0x1BE4 0xFF00 ∷ opaque 0xF5F5 ∷ line 14 0 ∷ halt ∷ [];
       pieces = [];
       before = blank 1;
       replies = ended 4 28 (pos 14) (pos 0) 0 0;
-      shows =
-          0b00_00_00_11_11_10_01_00_00_11_10_11_11_10_01_00_00_11_00_00_00_00_00_00 ∷
-          [];
+      shows = 0b00_00_00_11_11_10_01_00_00_11_10_11_11_10_01_00_00_11_00_00_00_00_00_00 ∷ [];
       stored = [];
     }
     -- Depth 4: XOR under a mask of one pixel's bits; the code's low four bits count
@@ -136,8 +133,7 @@ table =
       geometry = record { width = 16; height = 2; depth = 1 };
       words = 1;
       pane = record { left = 0; top = 0; width = 16; height = 2; start = 2; len = 80 };
-      commands =
-          defBitmap paneAddress 15 1 1 ∷ defColors 0xFFFF 0x0000 ∷ enterPick ∷ line 3 0 ∷ enterPick ∷ exitPick ∷ line 0 1 ∷ halt ∷ [];
+      commands = defBitmap paneAddress 15 1 1 ∷ defColors 0xFFFF 0x0000 ∷ enterPick ∷ line 3 0 ∷ enterPick ∷ exitPick ∷ line 0 1 ∷ halt ∷ [];
       pieces = [];
       before = blank 2;
       replies = ended 7 36 (pos 3) (pos 1) 0 0;
