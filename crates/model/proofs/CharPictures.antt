@@ -4,10 +4,9 @@
 use mathlib.Core.Path.{_≡_, refl}
 use mathlib.Core.List.{List, [], _∷_}
 use lib.IntN.{pos}
-use Rattle.model.specs.Bitmaps.{paneAddress}
 use Rattle.model.specs.Figures.{neg}
 use Rattle.model.proofs.Computing.{machine}
-use Rattle.model.proofs.Listings.{minus, halt, defBitmap, defClipRect, defColors, opaque, transparent, defSpace, defCharOrient, wordFont, byteFont, enterPick, exitPick, absMov, char, charTransparent, bytes}
+use Rattle.model.proofs.Listings.{minus, thePane, halt, defBitmap, defClipRect, defColors, opaque, transparent, defSpace, defCharOrient, wordFont, byteFont, enterPick, exitPick, absMov, char, charTransparent, bytes}
 use Rattle.model.proofs.Scripts.{piece}
 use Rattle.model.proofs.Pictures.{Picture, painted, blank, ended, outcomes, expectations}
 
@@ -19,9 +18,8 @@ table =
       words = 1;
       pane = record { left = 0; top = 0; width = 16; height = 8; start = 2; len = 118 };
       commands =
-          defBitmap paneAddress 15 7 1 ∷ defColors 0xFFFF 0x0000 ∷ wordFont 0x6A ∷ defCharOrient 0 0 ∷ absMov 1 1 ∷ char 0x68 1
-          ∷ defCharOrient 0 1 ∷ absMov 6 4 ∷ char 0x68 1 ∷ defCharOrient 0 2 ∷ absMov 14 3 ∷ char 0x68 1 ∷ defCharOrient 0 3 ∷ absMov 11 5
-          ∷ char 0x68 1 ∷ halt ∷ [];
+          defBitmap thePane 15 7 1 ∷ defColors 0xFFFF 0x0000 ∷ wordFont 0x6A ∷ defCharOrient 0 0 ∷ absMov 1 1 ∷ char 0x68 1 ∷ defCharOrient 0 1
+          ∷ absMov 6 4 ∷ char 0x68 1 ∷ defCharOrient 0 2 ∷ absMov 14 3 ∷ char 0x68 1 ∷ defCharOrient 0 3 ∷ absMov 11 5 ∷ char 0x68 1 ∷ halt ∷ [];
       pieces =
           piece 0x68 (bytes (0x0003 ∷ [])) ∷
           piece 0x70 (bytes (0x0102 ∷ 0x0006 ∷ 0x0001 ∷ [])) ∷
@@ -55,7 +53,7 @@ table =
       words = 1;
       pane = record { left = 1; top = 0; width = 15; height = 4; start = 2; len = 112 };
       commands =
-          defBitmap paneAddress 14 3 1 ∷ defColors 0xFFFF 0x0000 ∷ wordFont 0x40 ∷ defSpace 1 ∷ absMov 0 1 ∷ charTransparent 0x38 4 ∷ enterPick
+          defBitmap thePane 14 3 1 ∷ defColors 0xFFFF 0x0000 ∷ wordFont 0x40 ∷ defSpace 1 ∷ absMov 0 1 ∷ charTransparent 0x38 4 ∷ enterPick
           ∷ exitPick ∷ halt ∷ [];
       pieces =
           piece 0x38 (bytes (0x0008 ∷ 0x0000 ∷ 0x0010 ∷ 0x0008 ∷ [])) ∷
@@ -79,8 +77,8 @@ table =
       words = 1;
       pane = record { left = 0; top = 0; width = 16; height = 8; start = 2; len = 100 };
       commands =
-          defBitmap paneAddress 15 7 1 ∷ defColors 0xFFFF 0x0000 ∷ byteFont 0x40 ∷ defSpace 2 ∷ defCharOrient 2 1 ∷ absMov 12 5 ∷ char 0x3B 3
-          ∷ halt ∷ [];
+          defBitmap thePane 15 7 1 ∷ defColors 0xFFFF 0x0000 ∷ byteFont 0x40 ∷ defSpace 2 ∷ defCharOrient 2 1 ∷ absMov 12 5 ∷ char 0x3B 3 ∷ halt
+          ∷ [];
       pieces =
           piece 0x3B (1 ∷ 3 ∷ 1 ∷ []) ∷
           piece 0x40 (bytes (0xFFFF ∷ 0x0008 ∷ 0xFFFF ∷ 0x000C ∷ [])) ∷
@@ -107,7 +105,7 @@ table =
       words = 1;
       pane = record { left = 0; top = 0; width = 8; height = 2; start = 2; len = 88 };
       commands =
-          defBitmap paneAddress 7 1 2 ∷ defColors 0xFFFF 0x5555 ∷ wordFont 0x40 ∷ transparent 0xFFFF ∷ (0xA800 ∷ 0x003E ∷ 0x0000 ∷ 0x0001 ∷ [])
+          defBitmap thePane 7 1 2 ∷ defColors 0xFFFF 0x5555 ∷ wordFont 0x40 ∷ transparent 0xFFFF ∷ (0xA800 ∷ 0x003E ∷ 0x0000 ∷ 0x0001 ∷ [])
           ∷ opaque 0x0000 ∷ absMov 0 1 ∷ (0xA900 ∷ 0x003E ∷ 0x0000 ∷ 0x0001 ∷ []) ∷ halt ∷ [];
       pieces =
           piece 0x3E (bytes (0x0008 ∷ [])) ∷
@@ -129,7 +127,7 @@ table =
       geometry = record { width = 16; height = 4; depth = 1 };
       words = 1;
       pane = record { left = 2; top = 0; width = 10; height = 4; start = 2; len = 86 };
-      commands = defBitmap paneAddress 9 3 1 ∷ defColors 0xFFFF 0x0000 ∷ wordFont 0x34 ∷ absMov 1 (minus 2) ∷ char 0x32 1 ∷ halt ∷ [];
+      commands = defBitmap thePane 9 3 1 ∷ defColors 0xFFFF 0x0000 ∷ wordFont 0x34 ∷ absMov 1 (minus 2) ∷ char 0x32 1 ∷ halt ∷ [];
       pieces =
           piece 0x32 (bytes (0x0000 ∷ [])) ∷
           piece 0x34 (bytes (0x0F0F ∷ 0xFFFF ∷ 0xFFFF ∷ 0x8001 ∷ 0xC003 ∷ 0xA005 ∷ 0x9009 ∷ 0x8811 ∷ 0x8421 ∷ [])) ∷
@@ -150,8 +148,8 @@ table =
       words = 1;
       pane = record { left = 0; top = 0; width = 16; height = 8; start = 2; len = 80 };
       commands =
-          defBitmap paneAddress 15 7 1 ∷ defColors 0xFFFF 0x0000 ∷ wordFont 0x48 ∷ defClipRect 5 2 8 5 ∷ defCharOrient 1 3 ∷ absMov 7 6
-          ∷ char 0x44 2 ∷ halt ∷ [];
+          defBitmap thePane 15 7 1 ∷ defColors 0xFFFF 0x0000 ∷ wordFont 0x48 ∷ defClipRect 5 2 8 5 ∷ defCharOrient 1 3 ∷ absMov 7 6 ∷ char 0x44 2
+          ∷ halt ∷ [];
       pieces =
           piece 0x44 (bytes (0x0000 ∷ 0x0000 ∷ [])) ∷
           piece 0x48 (bytes (0x0203 ∷ 0x000F ∷ 0x0009 ∷ 0x000F ∷ [])) ∷
@@ -175,7 +173,7 @@ table =
       geometry = record { width = 16; height = 2; depth = 1 };
       words = 1;
       pane = record { left = 0; top = 0; width = 16; height = 2; start = 2; len = 76 };
-      commands = defBitmap paneAddress 15 1 1 ∷ defColors 0xFFFF 0x0000 ∷ wordFont 0x48 ∷ enterPick ∷ charTransparent 0x46 1 ∷ halt ∷ [];
+      commands = defBitmap thePane 15 1 1 ∷ defColors 0xFFFF 0x0000 ∷ wordFont 0x48 ∷ enterPick ∷ charTransparent 0x46 1 ∷ halt ∷ [];
       pieces =
           piece 0x46 (bytes (0x0000 ∷ [])) ∷
           piece 0x48 (bytes (0x8003 ∷ 0x0000 ∷ [])) ∷
@@ -190,7 +188,7 @@ table =
       geometry = record { width = 16; height = 2; depth = 1 };
       words = 1;
       pane = record { left = 0; top = 0; width = 16; height = 2; start = 2; len = 76 };
-      commands = defBitmap paneAddress 15 1 1 ∷ defColors 0xFFFF 0x0000 ∷ wordFont 0x48 ∷ enterPick ∷ char 0x46 1 ∷ halt ∷ [];
+      commands = defBitmap thePane 15 1 1 ∷ defColors 0xFFFF 0x0000 ∷ wordFont 0x48 ∷ enterPick ∷ char 0x46 1 ∷ halt ∷ [];
       pieces =
           piece 0x46 (bytes (0x0000 ∷ [])) ∷
           piece 0x48 (bytes (0x4003 ∷ 0x0000 ∷ [])) ∷

@@ -4,9 +4,8 @@
 use mathlib.Core.Path.{_≡_, refl}
 use mathlib.Core.List.{List, [], _∷_}
 use lib.IntN.{pos}
-use Rattle.model.specs.Bitmaps.{paneAddress}
 use Rattle.model.proofs.Computing.{machine}
-use Rattle.model.proofs.Listings.{minus, halt, defBitmap, defClipRect, defColors, defLogicalOp, transparent, defSpace, absMov, bitBlt, bitBltM}
+use Rattle.model.proofs.Listings.{minus, thePane, halt, defBitmap, defClipRect, defColors, defLogicalOp, transparent, defSpace, absMov, bitBlt, bitBltM}
 use Rattle.model.proofs.Scripts.{piece}
 use Rattle.model.proofs.Pictures.{Picture, painted, blank, ended, outcomes, expectations}
 
@@ -17,7 +16,7 @@ table =
       geometry = record { width = 8; height = 3; depth = 4 };
       words = 2;
       pane = record { left = 0; top = 0; width = 8; height = 3; start = 2; len = 40 };
-      commands = defBitmap paneAddress 7 2 4 ∷ absMov 1 1 ∷ bitBlt 0 0 5 1 ∷ halt ∷ [];
+      commands = defBitmap thePane 7 2 4 ∷ absMov 1 1 ∷ bitBlt 0 0 5 1 ∷ halt ∷ [];
       pieces = [];
       before =
           0x1234_5678 ∷
@@ -37,7 +36,7 @@ table =
       geometry = record { width = 8; height = 3; depth = 4 };
       words = 2;
       pane = record { left = 0; top = 0; width = 8; height = 3; start = 2; len = 40 };
-      commands = defBitmap paneAddress 7 2 4 ∷ absMov 0 0 ∷ bitBlt 1 1 5 1 ∷ halt ∷ [];
+      commands = defBitmap thePane 7 2 4 ∷ absMov 0 0 ∷ bitBlt 1 1 5 1 ∷ halt ∷ [];
       pieces = [];
       before =
           0x1234_5678 ∷
@@ -57,7 +56,7 @@ table =
       geometry = record { width = 8; height = 3; depth = 4 };
       words = 2;
       pane = record { left = 0; top = 0; width = 8; height = 3; start = 2; len = 40 };
-      commands = defBitmap paneAddress 7 2 4 ∷ absMov (minus 1) 1 ∷ bitBlt 1 0 6 2 ∷ halt ∷ [];
+      commands = defBitmap thePane 7 2 4 ∷ absMov (minus 1) 1 ∷ bitBlt 1 0 6 2 ∷ halt ∷ [];
       pieces = [];
       before =
           0x1234_5678 ∷
@@ -77,7 +76,7 @@ table =
       geometry = record { width = 8; height = 3; depth = 4 };
       words = 2;
       pane = record { left = 0; top = 0; width = 8; height = 3; start = 2; len = 40 };
-      commands = defBitmap paneAddress 7 2 4 ∷ defSpace (minus 3) ∷ absMov 2 0 ∷ bitBlt 0 1 4 1 ∷ halt ∷ [];
+      commands = defBitmap thePane 7 2 4 ∷ defSpace (minus 3) ∷ absMov 2 0 ∷ bitBlt 0 1 4 1 ∷ halt ∷ [];
       pieces = [];
       before =
           0x1234_5678 ∷
@@ -97,7 +96,7 @@ table =
       geometry = record { width = 8; height = 1; depth = 4 };
       words = 2;
       pane = record { left = 0; top = 0; width = 8; height = 1; start = 2; len = 40 };
-      commands = defBitmap paneAddress 7 0 4 ∷ defSpace 32767 ∷ absMov 32767 0 ∷ bitBlt 0 0 3 0 ∷ halt ∷ [];
+      commands = defBitmap thePane 7 0 4 ∷ defSpace 32767 ∷ absMov 32767 0 ∷ bitBlt 0 0 3 0 ∷ halt ∷ [];
       pieces = [];
       before = 0x1234_5678 ∷ [];
       replies = ended 4 32 (pos 1) (pos 0) 0 0;
@@ -109,7 +108,7 @@ table =
       geometry = record { width = 8; height = 2; depth = 4 };
       words = 2;
       pane = record { left = 0; top = 0; width = 8; height = 2; start = 2; len = 60 };
-      commands = defBitmap paneAddress 7 1 4 ∷ absMov 1 0 ∷ bitBlt 0 0 6 0 ∷ absMov 0 1 ∷ bitBlt 1 1 6 0 ∷ halt ∷ [];
+      commands = defBitmap thePane 7 1 4 ∷ absMov 1 0 ∷ bitBlt 0 0 6 0 ∷ absMov 0 1 ∷ bitBlt 1 1 6 0 ∷ halt ∷ [];
       pieces = [];
       before =
           0x1234_5678 ∷
@@ -128,7 +127,7 @@ table =
       words = 3;
       pane = record { left = 1; top = 0; width = 8; height = 3; start = 2; len = 96 };
       commands =
-          defBitmap paneAddress 7 2 4 ∷ defColors 0xFFFF 0xFFFF ∷ transparent 0x0000 ∷ defClipRect 3 1 6 2 ∷ absMov 2 1 ∷ bitBlt 0 0 5 0
+          defBitmap thePane 7 2 4 ∷ defColors 0xFFFF 0xFFFF ∷ transparent 0x0000 ∷ defClipRect 3 1 6 2 ∷ absMov 2 1 ∷ bitBlt 0 0 5 0
           ∷ defLogicalOp 0xF0FF 6 ∷ absMov 2 2 ∷ bitBlt 0 0 5 0 ∷ halt ∷ [];
       pieces = [];
       before =
@@ -150,8 +149,8 @@ table =
       words = 2;
       pane = record { left = 2; top = 0; width = 9; height = 3; start = 2; len = 120 };
       commands =
-          defBitmap 0x60 8 2 2 ∷ absMov 1 1 ∷ bitBltM paneAddress 8 2 2 0 5 1 ∷ defBitmap paneAddress 8 2 2 ∷ absMov 3 0
-          ∷ bitBltM 0x60 8 2 0 0 4 2 ∷ halt ∷ [];
+          defBitmap 0x60 8 2 2 ∷ absMov 1 1 ∷ bitBltM thePane 8 2 2 0 5 1 ∷ defBitmap thePane 8 2 2 ∷ absMov 3 0 ∷ bitBltM 0x60 8 2 0 0 4 2
+          ∷ halt ∷ [];
       pieces = piece 0x60 (painted 2 (0b01_01_01_01_01_01_01_01_01_01_01_01_01_01_01_01 ∷ 0b01_01_01_01_01_01_01_01_01_01_01_01_01_01_01_01 ∷ 0b01_01_01_01_01_01_01_01_01_01_01_01_01_01_01_01 ∷ [])) ∷ [];
       before =
           0b00_01_10_11_00_01_10_11_00_01_10_11_00_00_00_00 ∷

@@ -2,9 +2,8 @@
 use mathlib.Core.Path.{_≡_, refl}
 use mathlib.Core.List.{List, [], _∷_}
 use Prim.Native.Nat.{ℕ}
-use Rattle.model.specs.Bitmaps.{paneAddress}
 use Rattle.model.proofs.Computing.{machine}
-use Rattle.model.proofs.Listings.{minus, defBitmap, wordFont, byteFont, polyline, scanLines, bitBlt, bitBltM, char, bytes}
+use Rattle.model.proofs.Listings.{minus, thePane, defBitmap, wordFont, byteFont, polyline, scanLines, bitBlt, bitBltM, char, bytes}
 use Rattle.model.proofs.Scripts.{Piece, piece}
 use Rattle.model.proofs.FaultCases.{Case, passes, faults, onPane, onStore, results, dues}
 
@@ -12,10 +11,10 @@ use Rattle.model.proofs.FaultCases.{Case, passes, faults, onPane, onSto
 
 -- a font at 40 hex, of words and of bytes, for the pane and for the bitmap at 60 hex
 abbrev wordsOnPane : List (List ℕ)
-wordsOnPane = defBitmap paneAddress 15 1 1 ∷ wordFont 0x40 ∷ []
+wordsOnPane = defBitmap thePane 15 1 1 ∷ wordFont 0x40 ∷ []
 
 abbrev bytesOnPane : List (List ℕ)
-bytesOnPane = defBitmap paneAddress 15 1 1 ∷ byteFont 0x40 ∷ []
+bytesOnPane = defBitmap thePane 15 1 1 ∷ byteFont 0x40 ∷ []
 
 abbrev wordsOnStore : List (List ℕ)
 wordsOnStore = defBitmap 0x60 15 3 1 ∷ wordFont 0x40 ∷ []
@@ -123,7 +122,7 @@ table =
     -- by way of an offset word
     ∷ faults 25 bytesOnPane (piece 0x40 (bytes (0x0020 ∷ [])) ∷ []) (char 0x50 1)
     -- base and selector of more than 22 bits
-    ∷ faults 25 (defBitmap paneAddress 15 1 1 ∷ wordFont 0x3FFFFE ∷ []) (piece 0x50 (bytes (0x0021 ∷ [])) ∷ []) (char 0x50 1)
+    ∷ faults 25 (defBitmap thePane 15 1 1 ∷ wordFont 0x3FFFFE ∷ []) (piece 0x50 (bytes (0x0021 ∷ [])) ∷ []) (char 0x50 1)
     -- ## 29: BIT_BLT
     -- dx or dy negative
     ∷ faults 29 onPane [] (bitBlt 4 1 (minus 1) 0)
@@ -142,8 +141,8 @@ table =
     ∷ passes onPane [] (bitBltM 0x78 15 3 0 0 0 0)
     ∷ faults 22 (defBitmap 0x60 15 0 2 ∷ []) [] (bitBltM 0x7E 15 0 0 0 0 0)
     -- the pane named with another size than its own, or at another depth
-    ∷ faults 22 onStore [] (bitBltM paneAddress 14 1 0 0 0 0)
-    ∷ faults 22 (defBitmap 0x60 7 3 2 ∷ []) [] (bitBltM paneAddress 15 1 0 0 0 0)
+    ∷ faults 22 onStore [] (bitBltM thePane 14 1 0 0 0 0)
+    ∷ faults 22 (defBitmap 0x60 7 3 2 ∷ []) [] (bitBltM thePane 15 1 0 0 0 0)
     -- dx or dy negative
     ∷ faults 29 onPane [] (bitBltM 0x70 15 1 4 1 (minus 1) 0)
     ∷ faults 29 onPane [] (bitBltM 0x70 15 1 4 1 0 (minus 1))
@@ -153,9 +152,9 @@ table =
     ∷ faults 29 onPane [] (bitBltM 0x70 9 1 4 0 6 0)
     ∷ faults 29 onPane [] (bitBltM 0x70 15 1 0 1 0 1)
     -- from the pane to itself
-    ∷ faults 29 onPane [] (bitBltM paneAddress 15 1 0 0 0 0)
+    ∷ faults 29 onPane [] (bitBltM thePane 15 1 0 0 0 0)
     -- from the pane to the store, and from the store to the pane
-    ∷ passes onStore [] (bitBltM paneAddress 15 1 0 0 15 1)
+    ∷ passes onStore [] (bitBltM thePane 15 1 0 0 15 1)
     ∷ passes onPane [] (bitBltM 0x60 15 1 0 0 15 1)
     -- sharing a byte with the active bitmap, bytes 60 to 67 hex: rows of one word from 5C hex, the first two free
     ∷ passes onStore [] (bitBltM 0x5C 15 7 0 0 0 1)

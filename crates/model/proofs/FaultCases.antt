@@ -6,12 +6,11 @@ use mathlib.Core.List.{List, [], _∷_, _++_}
 use Prim.Native.Nat.{ℕ}
 use lib.IntN.{ℤ, pos}
 use lib.ListN.{length, replicate, set}
-use Rattle.model.specs.Bitmaps.{paneAddress}
 use Rattle.model.specs.Record.{Pane}
 use Rattle.model.specs.Setup.{paneAt}
 use Rattle.model.specs.Calls.{State, Answer, on, start, run, exec, values}
 use Rattle.model.proofs.Computing.{machine}
-use Rattle.model.proofs.Listings.{minus, link, call, return, defBitmap, defClipRect, wordFont, byteFont, point, line, rect, polyline, scanLines, bitBlt, bitBltM, char, bytes, listing}
+use Rattle.model.proofs.Listings.{minus, thePane, link, call, return, defBitmap, defClipRect, wordFont, byteFont, point, line, rect, polyline, scanLines, bitBlt, bitBltM, char, bytes, listing}
 use Rattle.model.proofs.Scripts.{Piece, piece, laid, script}
 
 -- what a command comes to
@@ -113,7 +112,7 @@ dues (c ∷ cs) = due (c .verdict) (reached c) ∷ dues cs
 -- ## What the active bitmap is in the rows below
 
 abbrev pub onPane : List (List ℕ)
-onPane = defBitmap paneAddress 15 1 1 ∷ []
+onPane = defBitmap thePane 15 1 1 ∷ []
 
 -- bytes 60 to 67 hex of the store: four rows of one word
 abbrev pub onStore : List (List ℕ)
@@ -133,7 +132,7 @@ table =
     ∷ passes (link 0x7E ∷ []) (piece 0x7E (bytes (0x0300 ∷ [])) ∷ []) []
     -- a pointer far outside; LINK there was done and counted, and so is a CALL
     ∷ faults 21 (link 0x3FFFFE ∷ []) [] []
-    ∷ faults 21 (call paneAddress ∷ []) [] []
+    ∷ faults 21 (call 0x200000 ∷ []) [] []
     -- bit 0 before the opcode
     ∷ ends [] [] (0xFF01 ∷ [])
     -- the opcode before the parameter words: an unknown one at the end of the store
@@ -146,12 +145,12 @@ table =
     ∷ faults 21 (link 0x7C ∷ []) (piece 0x7C (bytes (0x5300 ∷ 0x0001 ∷ [])) ∷ []) []
     -- ## 22: DEF_BITMAP
     -- the pane with a wrong xmax, ymax, depth
-    ∷ faults 22 [] [] (defBitmap paneAddress 14 1 1)
-    ∷ faults 22 [] [] (defBitmap paneAddress 16 1 1)
-    ∷ faults 22 [] [] (defBitmap paneAddress 15 2 1)
-    ∷ faults 22 [] [] (defBitmap paneAddress 15 1 2)
+    ∷ faults 22 [] [] (defBitmap thePane 14 1 1)
+    ∷ faults 22 [] [] (defBitmap thePane 16 1 1)
+    ∷ faults 22 [] [] (defBitmap thePane 15 2 1)
+    ∷ faults 22 [] [] (defBitmap thePane 15 1 2)
     -- the pane
-    ∷ passes [] [] (defBitmap paneAddress 15 1 1)
+    ∷ passes [] [] (defBitmap thePane 15 1 1)
     -- an odd address
     ∷ faults 22 [] [] (defBitmap 0x61 15 3 1)
     -- bits per pixel that are no depth

@@ -4,7 +4,6 @@
 use mathlib.Core.Path.{_≡_, refl}
 use mathlib.Core.List.{List, [], _∷_}
 use lib.IntN.{pos}
-use Rattle.model.specs.Bitmaps.{paneAddress}
 use Rattle.model.specs.Figures.{neg, masked}
 use lib.ListN.{getD}
 use Rattle.model.specs.Coordinates.{at}
@@ -12,7 +11,7 @@ use Rattle.model.specs.Dots.{Drawing, dot}
 use Rattle.model.specs.Lines as lines
 use Rattle.model.specs.declared.Source.the-variants.{Nothing}
 use Rattle.model.proofs.Computing.{machine}
-use Rattle.model.proofs.Listings.{minus, halt, defBitmap, defClipRect, defColors, defLogicalOp, opaque, transparent, absMov, point, line, rect, polyline, scanLines, bytes}
+use Rattle.model.proofs.Listings.{minus, thePane, halt, defBitmap, defClipRect, defColors, defLogicalOp, opaque, transparent, absMov, point, line, rect, polyline, scanLines, bytes}
 use Rattle.model.proofs.Scripts.{piece}
 use Rattle.model.proofs.Pictures.{Picture, blank, ended, outcomes, expectations}
 
@@ -24,7 +23,7 @@ table =
       words = 1;
       pane = record { left = 0; top = 0; width = 16; height = 11; start = 2; len = 120 };
       commands =
-          defBitmap paneAddress 15 10 1 ∷ defColors 0xFFFF 0x0000 ∷ absMov 7 5 ∷ line 7 3 ∷ absMov 7 5 ∷ line 7 (minus 3) ∷ absMov 7 5
+          defBitmap thePane 15 10 1 ∷ defColors 0xFFFF 0x0000 ∷ absMov 7 5 ∷ line 7 3 ∷ absMov 7 5 ∷ line 7 (minus 3) ∷ absMov 7 5
           ∷ line (minus 7) 3 ∷ absMov 7 5 ∷ line (minus 7) (minus 3) ∷ absMov 7 5 ∷ line 3 5 ∷ absMov 7 5 ∷ line (minus 3) 5 ∷ absMov 7 5
           ∷ line 3 (minus 5) ∷ absMov 7 5 ∷ line (minus 3) (minus 5) ∷ halt ∷ [];
       pieces = [];
@@ -51,7 +50,7 @@ table =
       words = 1;
       pane = record { left = 1; top = 1; width = 14; height = 5; start = 2; len = 108 };
       commands =
-          defBitmap paneAddress 13 4 1 ∷ defColors 0xFFFF 0x0000 ∷ absMov 0 0 ∷ line 4 4 ∷ line 4 (minus 4) ∷ (0x5500 ∷ 0x0005 ∷ 0x0000 ∷ [])
+          defBitmap thePane 13 4 1 ∷ defColors 0xFFFF 0x0000 ∷ absMov 0 0 ∷ line 4 4 ∷ line 4 (minus 4) ∷ (0x5500 ∷ 0x0005 ∷ 0x0000 ∷ [])
           ∷ line 0 4 ∷ line (minus 4) 0 ∷ line (minus 1) (minus 1) ∷ absMov 1 3 ∷ line 0 0 ∷ halt ∷ [];
       pieces = [];
       before = blank 7;
@@ -73,8 +72,8 @@ table =
       words = 3;
       pane = record { left = 1; top = 0; width = 22; height = 2; start = 2; len = 64 };
       commands =
-          defBitmap paneAddress 21 1 2 ∷ defColors 0xFFFF 0x5555 ∷ opaque 0xE8C5 ∷ absMov (minus 3) 0 ∷ line 23 0 ∷ transparent 0xE8C5
-          ∷ absMov 21 1 ∷ line (minus 20) 0 ∷ halt ∷ [];
+          defBitmap thePane 21 1 2 ∷ defColors 0xFFFF 0x5555 ∷ opaque 0xE8C5 ∷ absMov (minus 3) 0 ∷ line 23 0 ∷ transparent 0xE8C5 ∷ absMov 21 1
+          ∷ line (minus 20) 0 ∷ halt ∷ [];
       pieces = [];
       before =
           0b00_00_00_00_00_00_00_00_00_00_00_00_00_00_00_00_00_00_00_00_00_00_00_00 ∷
@@ -93,7 +92,7 @@ table =
       words = 1;
       pane = record { left = 3; top = 0; width = 12; height = 2; start = 2; len = 80 };
       commands =
-          defBitmap paneAddress 11 1 1 ∷ defColors 0xFFFF 0x0000 ∷ opaque 0x8000 ∷ point 2 0 ∷ opaque 0x7FFF ∷ point 2 0 ∷ transparent 0x7FFF
+          defBitmap thePane 11 1 1 ∷ defColors 0xFFFF 0x0000 ∷ opaque 0x8000 ∷ point 2 0 ∷ opaque 0x7FFF ∷ point 2 0 ∷ transparent 0x7FFF
           ∷ point 2 0 ∷ transparent 0x8000 ∷ point 2 1 ∷ point 4 0 ∷ point (minus 13) 0 ∷ halt ∷ [];
       pieces = [];
       before =
@@ -112,7 +111,7 @@ table =
       geometry = record { width = 16; height = 1; depth = 1 };
       words = 1;
       pane = record { left = 0; top = 0; width = 16; height = 1; start = 2; len = 40 };
-      commands = defBitmap paneAddress 15 0 1 ∷ defColors 0xFFFF 0x0000 ∷ absMov (minus 32768) 0 ∷ point (minus 32768) 0 ∷ halt ∷ [];
+      commands = defBitmap thePane 15 0 1 ∷ defColors 0xFFFF 0x0000 ∷ absMov (minus 32768) 0 ∷ point (minus 32768) 0 ∷ halt ∷ [];
       pieces = [];
       before = blank 1;
       replies = ended 4 30 (pos 0) (pos 0) 0 0;
@@ -124,8 +123,7 @@ table =
       geometry = record { width = 16; height = 5; depth = 1 };
       words = 1;
       pane = record { left = 2; top = 1; width = 13; height = 4; start = 2; len = 76 };
-      commands =
-          defBitmap paneAddress 12 3 1 ∷ defColors 0xFFFF 0x0000 ∷ opaque 0xD400 ∷ absMov 3 3 ∷ polyline 0x40 3 ∷ polyline 0x40 0 ∷ halt ∷ [];
+      commands = defBitmap thePane 12 3 1 ∷ defColors 0xFFFF 0x0000 ∷ opaque 0xD400 ∷ absMov 3 3 ∷ polyline 0x40 3 ∷ polyline 0x40 0 ∷ halt ∷ [];
       pieces = piece 0x40 (bytes (0xFFFB ∷ 0xFFFE ∷ 0x0006 ∷ 0xFFFF ∷ 0x0004 ∷ 0x0002 ∷ [])) ∷ [];
       before = blank 5;
       replies = ended 6 44 (pos 8) (pos 2) 0 0;
@@ -144,8 +142,7 @@ table =
       words = 4;
       pane = record { left = 1; top = 0; width = 13; height = 4; start = 2; len = 96 };
       commands =
-          defBitmap paneAddress 12 3 4 ∷ defColors 0x1234 0xFFFF ∷ defLogicalOp 0xFFFF 6 ∷ opaque 0xEC00 ∷ absMov 1 0 ∷ scanLines 0x40 3 ∷ halt
-          ∷ [];
+          defBitmap thePane 12 3 4 ∷ defColors 0x1234 0xFFFF ∷ defLogicalOp 0xFFFF 6 ∷ opaque 0xEC00 ∷ absMov 1 0 ∷ scanLines 0x40 3 ∷ halt ∷ [];
       pieces = piece 0x40 (bytes (0x0001 ∷ 0x0000 ∷ 0x0005 ∷ 0x0002 ∷ 0x0001 ∷ 0x0000 ∷ 0x0004 ∷ 0x0001 ∷ 0xFFFD ∷ [])) ∷ [];
       before =
           0x0000_0000_0000_0000 ∷
@@ -168,7 +165,7 @@ table =
       words = 1;
       pane = record { left = 0; top = 0; width = 16; height = 7; start = 2; len = 96 };
       commands =
-          defBitmap paneAddress 15 6 1 ∷ defColors 0xFFFF 0x0000 ∷ defLogicalOp 0xFFFF 6 ∷ opaque 0xED35 ∷ absMov 0 0 ∷ rect 4 2 ∷ absMov 10 0
+          defBitmap thePane 15 6 1 ∷ defColors 0xFFFF 0x0000 ∷ defLogicalOp 0xFFFF 6 ∷ opaque 0xED35 ∷ absMov 0 0 ∷ rect 4 2 ∷ absMov 10 0
           ∷ rect (minus 4) 2 ∷ absMov 0 6 ∷ rect 4 (minus 2) ∷ absMov 10 6 ∷ rect (minus 4) (minus 2) ∷ halt ∷ [];
       pieces = [];
       before = blank 7;
@@ -190,7 +187,7 @@ table =
       words = 2;
       pane = record { left = 0; top = 0; width = 32; height = 6; start = 2; len = 152 };
       commands =
-          defBitmap paneAddress 31 5 1 ∷ defColors 0xFFFF 0x0000 ∷ defLogicalOp 0xFFFF 6 ∷ opaque 0xDAE7 ∷ absMov 0 0 ∷ rect 5 0 ∷ absMov 0 2
+          defBitmap thePane 31 5 1 ∷ defColors 0xFFFF 0x0000 ∷ defLogicalOp 0xFFFF 6 ∷ opaque 0xDAE7 ∷ absMov 0 0 ∷ rect 5 0 ∷ absMov 0 2
           ∷ rect 0 3 ∷ absMov 2 2 ∷ rect 0 0 ∷ absMov 4 2 ∷ rect 5 1 ∷ absMov 11 2 ∷ rect 1 3 ∷ absMov 14 2 ∷ rect 1 1 ∷ absMov 22 3
           ∷ rect (minus 5) (minus 1) ∷ absMov 25 5 ∷ rect (minus 1) (minus 3) ∷ absMov 31 0 ∷ rect (minus 5) 0 ∷ halt ∷ [];
       pieces = [];
@@ -211,7 +208,7 @@ table =
       geometry = record { width = 16; height = 3; depth = 1 };
       words = 1;
       pane = record { left = 2; top = 1; width = 12; height = 2; start = 2; len = 40 };
-      commands = defBitmap paneAddress 11 1 1 ∷ defColors 0xFFFF 0x0000 ∷ opaque 0x02CB ∷ absMov (minus 2) (minus 2) ∷ rect 4 3 ∷ halt ∷ [];
+      commands = defBitmap thePane 11 1 1 ∷ defColors 0xFFFF 0x0000 ∷ opaque 0x02CB ∷ absMov (minus 2) (minus 2) ∷ rect 4 3 ∷ halt ∷ [];
       pieces = [];
       before = blank 3;
       replies = ended 5 34 (neg 2) (neg 2) 0 0;
@@ -228,7 +225,7 @@ table =
       words = 1;
       pane = record { left = 1; top = 0; width = 14; height = 5; start = 2; len = 112 };
       commands =
-          defBitmap paneAddress 13 4 1 ∷ defColors 0xFFFF 0x0000 ∷ defClipRect 3 1 9 3 ∷ rect 11 2 ∷ line 12 4 ∷ absMov 0 0 ∷ scanLines 0x60 1
+          defBitmap thePane 13 4 1 ∷ defColors 0xFFFF 0x0000 ∷ defClipRect 3 1 9 3 ∷ rect 11 2 ∷ line 12 4 ∷ absMov 0 0 ∷ scanLines 0x60 1
           ∷ absMov 9 1 ∷ point 0 0 ∷ point 0 2 ∷ halt ∷ [];
       pieces = piece 0x60 (bytes (0x000D ∷ 0x0003 ∷ 0xFFF3 ∷ [])) ∷ [];
       before = blank 5;
@@ -248,8 +245,8 @@ table =
       words = 1;
       pane = record { left = 0; top = 0; width = 16; height = 3; start = 2; len = 64 };
       commands =
-          defBitmap paneAddress 15 2 1 ∷ defColors 0xFFFF 0x0000 ∷ defClipRect 5 1 4 1 ∷ line 9 2 ∷ defClipRect 0 2 15 1
-          ∷ line (minus 9) (minus 2) ∷ halt ∷ [];
+          defBitmap thePane 15 2 1 ∷ defColors 0xFFFF 0x0000 ∷ defClipRect 5 1 4 1 ∷ line 9 2 ∷ defClipRect 0 2 15 1 ∷ line (minus 9) (minus 2)
+          ∷ halt ∷ [];
       pieces = [];
       before = blank 3;
       replies = ended 6 50 (pos 0) (pos 0) 0 0;

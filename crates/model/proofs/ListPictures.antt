@@ -4,9 +4,8 @@
 use mathlib.Core.Path.{_≡_, refl}
 use mathlib.Core.List.{List, [], _∷_}
 use lib.IntN.{pos}
-use Rattle.model.specs.Bitmaps.{paneAddress}
 use Rattle.model.proofs.Computing.{machine}
-use Rattle.model.proofs.Listings.{nop, halt, link, call, defBitmap, defClipRect, defColors, absMov, relMov, point, line, bytes}
+use Rattle.model.proofs.Listings.{thePane, nop, halt, link, call, defBitmap, defClipRect, defColors, absMov, relMov, point, line, bytes}
 use Rattle.model.proofs.Scripts.{piece}
 use Rattle.model.proofs.Pictures.{Picture, blank, ended, outcomes, expectations}
 
@@ -18,7 +17,7 @@ table =
       words = 1;
       pane = record { left = 0; top = 0; width = 16; height = 1; start = 2; len = 100 };
       commands =
-          defBitmap paneAddress 15 0 1 ∷ defColors 0xFFFF 0x0000 ∷ call 0x40 ∷ nop ∷ call 0x50 ∷ link 0x2A ∷ (0xFF00 ∷ []) ∷ (0xFF00 ∷ [])
+          defBitmap thePane 15 0 1 ∷ defColors 0xFFFF 0x0000 ∷ call 0x40 ∷ nop ∷ call 0x50 ∷ link 0x2A ∷ (0xFF00 ∷ []) ∷ (0xFF00 ∷ [])
           ∷ point 5 0 ∷ halt ∷ [];
       pieces =
           piece 0x40 (bytes (0x5300 ∷ 0x0001 ∷ 0x0000 ∷ 0x1700 ∷ [])) ∷
@@ -48,7 +47,7 @@ table =
       geometry = record { width = 16; height = 1; depth = 1 };
       words = 1;
       pane = record { left = 0; top = 0; width = 16; height = 1; start = 2; len = 64 };
-      commands = defBitmap 0x2C 15 0 1 ∷ defColors 0xFFFF 0x0000 ∷ line 15 0 ∷ defBitmap paneAddress 15 0 1 ∷ absMov 4 0 ∷ point 0 0 ∷ halt ∷ [];
+      commands = defBitmap 0x2C 15 0 1 ∷ defColors 0xFFFF 0x0000 ∷ line 15 0 ∷ defBitmap thePane 15 0 1 ∷ absMov 4 0 ∷ point 0 0 ∷ halt ∷ [];
       pieces = [];
       before = blank 1;
       replies = ended 6 48 (pos 3) (pos 0) 0 0;
@@ -61,8 +60,7 @@ table =
       words = 1;
       pane = record { left = 0; top = 0; width = 16; height = 1; start = 2; len = 64 };
       commands =
-          defBitmap paneAddress 15 0 1 ∷ defColors 0xFFFF 0x0000 ∷ defClipRect 3 0 5 0 ∷ relMov 4 0 ∷ defBitmap paneAddress 15 0 1 ∷ line 8 0
-          ∷ halt ∷ [];
+          defBitmap thePane 15 0 1 ∷ defColors 0xFFFF 0x0000 ∷ defClipRect 3 0 5 0 ∷ relMov 4 0 ∷ defBitmap thePane 15 0 1 ∷ line 8 0 ∷ halt ∷ [];
       pieces = [];
       before = blank 1;
       replies = ended 6 52 (pos 12) (pos 0) 0 0;

@@ -6,6 +6,10 @@ use Prim.Native.Nat.{ℕ, _+_, _-_, _*_, _/_, _%_}
 abbrev pub minus : ℕ → ℕ
 minus n = 0x10000 - n
 
+-- the address that means the pane
+abbrev pub thePane : ℕ
+thePane = 0x200000
+
 -- the low and the high word of an address
 abbrev low : ℕ → ℕ
 low a = a % 0x10000

@@ -4,9 +4,15 @@
 use mathlib.Core.Path.{_≡_, refl}
 use mathlib.Core.List.{List, [], _∷_}
 use lib.IntN.{pos}
-use Rattle.model.specs.Bitmaps.{paneAddress}
+use Prim.Native.Nat.{ℕ}
+use lib.ListN.{replicate}
+use Rattle.model.specs.Bitmaps.{Surface, paneSurface, pixels}
+use Rattle.model.specs.Record.{fresh}
+use Rattle.model.specs.Pixels.{change}
+use Rattle.model.specs.Runs.{runs}
+use Rattle.model.specs.Calls.{started}
 use Rattle.model.proofs.Computing.{machine}
-use Rattle.model.proofs.Listings.{minus, halt, defBitmap, defClipRect, defColors, defLogicalOp, opaque, transparent, enterPick, exitPick, absMov, line}
+use Rattle.model.proofs.Listings.{minus, thePane, halt, defBitmap, defClipRect, defColors, defLogicalOp, opaque, transparent, enterPick, exitPick, absMov, line, listing}
 use Rattle.model.proofs.Pictures.{Picture, blank, ended, outcomes, expectations}
 
 abbrev table : List Picture
@@ -17,7 +23,7 @@ table =
       words = 2;
       pane = record { left = 3; top = 0; width = 19; height = 2; start = 2; len = 72 };
       commands =
-          defBitmap paneAddress 18 1 1 ∷ defColors 0x00FF 0xFF00 ∷ line 18 0 ∷ defLogicalOp 0x3333 5 ∷ defColors 0xFFFF 0x0000 ∷ absMov 0 1
+          defBitmap thePane 18 1 1 ∷ defColors 0x00FF 0xFF00 ∷ line 18 0 ∷ defLogicalOp 0x3333 5 ∷ defColors 0xFFFF 0x0000 ∷ absMov 0 1
           ∷ line 18 0 ∷ halt ∷ [];
       pieces = [];
       before = blank 2;
@@ -33,7 +39,7 @@ table =
       geometry = record { width = 20; height = 1; depth = 2 };
       words = 3;
       pane = record { left = 3; top = 0; width = 15; height = 1; start = 2; len = 40 };
-      commands = defBitmap paneAddress 14 0 2 ∷ defColors 0x1BE4 0xFF00 ∷ opaque 0xF5F5 ∷ line 14 0 ∷ halt ∷ [];
+      commands = defBitmap thePane 14 0 2 ∷ defColors 0x1BE4 0xFF00 ∷ opaque 0xF5F5 ∷ line 14 0 ∷ halt ∷ [];
       pieces = [];
       before = blank 1;
       replies = ended 4 28 (pos 14) (pos 0) 0 0;
@@ -46,7 +52,7 @@ table =
       words = 3;
       pane = record { left = 1; top = 0; width = 8; height = 2; start = 2; len = 64 };
       commands =
-          defBitmap paneAddress 7 1 4 ∷ defColors 0x1234 0x0000 ∷ defLogicalOp 0xF0F0 65526 ∷ line 7 0 ∷ defLogicalOp 0x137F 10 ∷ absMov 0 1
+          defBitmap thePane 7 1 4 ∷ defColors 0x1234 0x0000 ∷ defLogicalOp 0xF0F0 65526 ∷ line 7 0 ∷ defLogicalOp 0x137F 10 ∷ absMov 0 1
           ∷ line 7 0 ∷ halt ∷ [];
       pieces = [];
       before =
@@ -66,7 +72,7 @@ table =
       words = 3;
       pane = record { left = 1; top = 1; width = 4; height = 2; start = 2; len = 64 };
       commands =
-          defBitmap paneAddress 3 1 8 ∷ defColors 0x12AB 0x0000 ∷ line 3 0 ∷ defLogicalOp 0x0FF0 7 ∷ absMov 3 1 ∷ line (minus 3) 0 ∷ halt ∷ [];
+          defBitmap thePane 3 1 8 ∷ defColors 0x12AB 0x0000 ∷ line 3 0 ∷ defLogicalOp 0x0FF0 7 ∷ absMov 3 1 ∷ line (minus 3) 0 ∷ halt ∷ [];
       pieces = [];
       before =
           0x11_11_11_11_11_11 ∷
@@ -87,8 +93,8 @@ table =
       words = 1;
       pane = record { left = 0; top = 0; width = 8; height = 2; start = 2; len = 64 };
       commands =
-          defBitmap paneAddress 7 1 2 ∷ defColors 0xAAAA 0x5555 ∷ defLogicalOp 0xFFFF 6 ∷ opaque 0xCCCC ∷ line 7 0 ∷ transparent 0xCCCC
-          ∷ absMov 0 1 ∷ line 7 0 ∷ halt ∷ [];
+          defBitmap thePane 7 1 2 ∷ defColors 0xAAAA 0x5555 ∷ defLogicalOp 0xFFFF 6 ∷ opaque 0xCCCC ∷ line 7 0 ∷ transparent 0xCCCC ∷ absMov 0 1
+          ∷ line 7 0 ∷ halt ∷ [];
       pieces = [];
       before =
           0b00_01_10_11_00_01_10_11 ∷
@@ -107,7 +113,7 @@ table =
       words = 1;
       pane = record { left = 0; top = 0; width = 16; height = 2; start = 2; len = 80 };
       commands =
-          defBitmap paneAddress 15 1 1 ∷ defColors 0xFFFF 0x0000 ∷ defLogicalOp 0x0000 3 ∷ enterPick ∷ defClipRect 4 0 6 1 ∷ line 4 0 ∷ halt ∷ [];
+          defBitmap thePane 15 1 1 ∷ defColors 0xFFFF 0x0000 ∷ defLogicalOp 0x0000 3 ∷ enterPick ∷ defClipRect 4 0 6 1 ∷ line 4 0 ∷ halt ∷ [];
       pieces = [];
       before = blank 2;
       replies = ended 6 42 (pos 4) (pos 0) 1 0;
@@ -120,7 +126,7 @@ table =
       words = 1;
       pane = record { left = 0; top = 0; width = 16; height = 2; start = 2; len = 80 };
       commands =
-          defBitmap paneAddress 15 1 1 ∷ defColors 0xFFFF 0x0000 ∷ enterPick ∷ defClipRect 4 0 6 1 ∷ line 3 0 ∷ absMov 7 1 ∷ line 5 0
+          defBitmap thePane 15 1 1 ∷ defColors 0xFFFF 0x0000 ∷ enterPick ∷ defClipRect 4 0 6 1 ∷ line 3 0 ∷ absMov 7 1 ∷ line 5 0
           ∷ transparent 0xF1FF ∷ absMov 0 0 ∷ line 7 0 ∷ halt ∷ [];
       pieces = [];
       before = blank 2;
@@ -133,7 +139,7 @@ table =
       geometry = record { width = 16; height = 2; depth = 1 };
       words = 1;
       pane = record { left = 0; top = 0; width = 16; height = 2; start = 2; len = 80 };
-      commands = defBitmap paneAddress 15 1 1 ∷ defColors 0xFFFF 0x0000 ∷ enterPick ∷ line 3 0 ∷ enterPick ∷ exitPick ∷ line 0 1 ∷ halt ∷ [];
+      commands = defBitmap thePane 15 1 1 ∷ defColors 0xFFFF 0x0000 ∷ enterPick ∷ line 3 0 ∷ enterPick ∷ exitPick ∷ line 0 1 ∷ halt ∷ [];
       pieces = [];
       before = blank 2;
       replies = ended 7 36 (pos 3) (pos 1) 0 0;
@@ -149,7 +155,7 @@ table =
       words = 1;
       pane = record { left = 0; top = 0; width = 16; height = 2; start = 2; len = 80 };
       commands =
-          defBitmap paneAddress 15 1 1 ∷ defColors 0xFFFF 0x0000 ∷ enterPick ∷ line 3 0 ∷ line 0 9 ∷ line 0 3 ∷ exitPick ∷ absMov 2 1 ∷ line 2 0
+          defBitmap thePane 15 1 1 ∷ defColors 0xFFFF 0x0000 ∷ enterPick ∷ line 3 0 ∷ line 0 9 ∷ line 0 3 ∷ exitPick ∷ absMov 2 1 ∷ line 2 0
           ∷ halt ∷ [];
       pieces = [];
       before = blank 2;
@@ -165,3 +171,45 @@ table =
 pub pen-pictures : outcomes table ≡ expectations table
 unfolding machine outcomes
 pen-pictures = refl
+
+-- ## Pixels visible
+
+-- a run counts the pixels that are visible: of a LINE of ten pixels five are in the clip, of these the pattern leaves one out; a LINE outside has
+-- none; in pick mode they count as well
+abbrev counted : List ℕ
+counted =
+    listing
+    (defBitmap thePane 15 1 1 ∷ defClipRect 3 0 7 1 ∷ transparent 0xFDFF ∷ line 9 0 ∷ line 5 5 ∷ enterPick ∷ absMov 7 1 ∷ line 2 0 ∷ halt ∷ [])
+
+pub hits-counted :
+    runs (record { width = 16; height = 2; depth = 1 })
+    (record { left = 0; top = 0; width = 16; height = 2; start = 0; len = 58 })
+    99 (started fresh 0) (blank 4) counted .hits
+    ≡ 5
+unfolding machine
+hits-counted = refl
+
+-- ## Outside a surface
+
+-- a pane of 6 by 2 pixels at (3,0), all bits of the screen 1
+abbrev pane : Surface
+pane = paneSurface (record { width = 16; height = 3; depth = 1 }) (record { left = 3; top = 0; width = 6; height = 2; start = 0; len = 0 })
+
+abbrev ones : List ℕ
+ones = replicate 6 0xFF
+
+-- it shows 0 outside, and a change there is none
+pub outside-shows :
+    pixels pane ones 5 1 ∷ pixels pane ones 6 1 ∷ pixels pane ones 5 2 ∷ []
+    ≡ 1 ∷ 0 ∷ 0 ∷ []
+unfolding machine
+outside-shows = refl
+
+abbrev cleared : ℕ → ℕ → List ℕ
+cleared x y = change pane (record { x = x; y = y; new = λ v. 0 }) ones
+
+pub outside-changes :
+    cleared 5 1 ∷ cleared 6 1 ∷ cleared 5 2 ∷ []
+    ≡ (0xFF ∷ 0xFF ∷ 0b01111111 ∷ 0xFF ∷ 0xFF ∷ 0xFF ∷ []) ∷ ones ∷ ones ∷ []
+unfolding machine
+outside-changes = refl

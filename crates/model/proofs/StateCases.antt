@@ -5,14 +5,13 @@ use mathlib.Core.Bool.{true, false}
 use mathlib.Core.List.{List, [], _∷_, _++_}
 use Prim.Native.Nat.{ℕ}
 use lib.ListN.{replicate}
-use Rattle.model.specs.Bitmaps.{paneAddress}
 use Rattle.model.specs.Record.{Pane}
 use Rattle.model.specs.Setup.{paneAt}
 use Rattle.model.specs.declared.Bitmap.the-variants as bitmap
 use Rattle.model.specs.declared.Font.the-variants as font
 use Rattle.model.specs.Calls.{State, on, start, run}
 use Rattle.model.proofs.Computing.{machine}
-use Rattle.model.proofs.Listings.{nop, link, call, return, defBitmap, defClipRect, defColors, defLogicalOp, opaque, transparent, defSpace, defCharOrient, wordFont, byteFont, enterPick, exitPick, absMov, relMov, minus, listing}
+use Rattle.model.proofs.Listings.{thePane, nop, link, call, return, defBitmap, defClipRect, defColors, defLogicalOp, opaque, transparent, defSpace, defCharOrient, wordFont, byteFont, enterPick, exitPick, absMov, relMov, minus, listing}
 use Rattle.model.proofs.Scripts.{script, piece, laid}
 
 -- 11 commands; CALL goes to the next one
@@ -25,7 +24,7 @@ forwards =
 abbrev backwards : List (List ℕ)
 backwards =
     relMov (minus 10) 0x7FFF ∷ exitPick ∷ byteFont 0x30AAA ∷ defCharOrient 3 1 ∷ defSpace (minus 2) ∷ opaque 0xBBBB ∷ defLogicalOp 0xCCCC 9
-    ∷ defColors 0xDDDD 0xEEEE ∷ defClipRect 9 2 0 1 ∷ defBitmap paneAddress 15 1 1 ∷ nop ∷ call 0x8C ∷ link 0x8E ∷ return ∷ []
+    ∷ defColors 0xDDDD 0xEEEE ∷ defClipRect 9 2 0 1 ∷ defBitmap thePane 15 1 1 ∷ nop ∷ call 0x8C ∷ link 0x8E ∷ return ∷ []
 
 abbrev console : State
 console =
