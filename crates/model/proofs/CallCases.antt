@@ -148,9 +148,9 @@ everyCall s k n =
     ∷ refuses s (on k clear) n
     ∷ []
 
--- a record that refusal 12 names, and a geometry that 6 names
-abbrev spoilt : Pane → State
-spoilt p = state p busy screen stores
+-- a record that refusal 12 names: pane 1's bitmap is not pane 0's size; and a geometry that 6 names
+abbrev badRecord : State
+badRecord = state (drawing 1 0 0 1) busy screen stores
 
 abbrev badDepth : State
 badDepth =
@@ -184,8 +184,7 @@ table =
     ∷ leaves (on 1 (run 9)) (pos 0 ∷ pos 1 ∷ pos 3 ∷ pos 21 ∷ []) (state busy (drawing 3 21 6 3) (0b01101100 ∷ 0b10110101 ∷ 0b00001000 ∷ 0b00001111 ∷ []) stores)
     -- status 3, 0, 2
     ∷ refuses begin (on 0 (run 1)) 4
-    ∷ refuses (spoilt (drawing 0 0 0 0)) (on 0 (run 1)) 12
-    ∷ refuses (spoilt asNew) (on 0 (run 0)) 4
+    ∷ refuses (state asNew busy screen stores) (on 0 (run 0)) 4
     ∷ refuses (state busy (drawing 2 0 0 0) screen stores) (on 1 (run 1)) 4
     -- ## Look
     ∷ tells begin (on 0 look) (pos 0 ∷ pos 3 ∷ pos 29 ∷ pos 6 ∷ neg 5 ∷ pos 7 ∷ pos 1 ∷ pos 1 ∷ [])
@@ -211,8 +210,8 @@ table =
     ∷ leaves (on 1 clear) (pos 0 ∷ []) (state busy asNew screen stores)
     -- ## 1, then 12, then a call's own; set-up's refusals before all
     ∷ everyCall begin 2 1
-    ++ (everyCall (spoilt (drawing 4 0 0 0)) 0 12
-    ++ (everyCall (spoilt (drawing 4 0 0 0)) 2 1
+    ++ (everyCall badRecord 0 12
+    ++ (everyCall badRecord 2 1
     ++ (everyCall badDepth 0 6 ++ everyCall badDepth 2 6)))
 
 pub call-cases : results table ≡ due table
@@ -231,6 +230,6 @@ unfolding machine
 set-up-refused = refl
 
 -- it ignores the pane records
-pub set-up-any-records : came (setUp (spoilt (drawing 4 0 0 0))) ≡ record { values = pos 0 ∷ []; left = state asNew asNew screen stores }
+pub set-up-any-records : came (setUp badRecord) ≡ record { values = pos 0 ∷ []; left = state asNew asNew screen stores }
 unfolding machine
 set-up-any-records = refl
