@@ -11,6 +11,8 @@ use Rattle.model.specs.Record.{Pane}
 use Rattle.model.specs.declared.Bitmap.the-variants as bitmap
 use Rattle.model.specs.declared.Font.the-variants as font
 use Rattle.model.specs.Figures.{neg}
+use Rattle.model.specs.Runs.{runs}
+use Rattle.model.specs.Setup.{rowAt}
 use Rattle.model.specs.Calls.{State, Answer, Request, on, put, start, run, look, pixel, peek, clear, exec, setUp, values}
 use Rattle.model.proofs.Computing.{machine}
 
@@ -217,6 +219,11 @@ table =
 pub call-cases : results table ≡ due table
 unfolding machine
 call-cases = refl
+
+-- "While status is 1": nothing is done at another
+pub parked-runs : runs geometry (rowAt rows 1) 9 (drawing 0 0 0 1) screen (0x00 ∷ 0x53 ∷ 0x02 ∷ 0x00 ∷ 0x00 ∷ 0x00 ∷ []) .pane ≡ drawing 0 0 0 1
+unfolding machine
+parked-runs = refl
 
 -- ## Set-up
 
