@@ -4,11 +4,15 @@
 use mathlib.Core.Path.{_≡_, refl}
 use mathlib.Core.List.{List, [], _∷_}
 use lib.IntN.{pos}
+use mathlib.Core.Bool.{Bool, true, false}
 use Prim.Native.Nat.{ℕ}
 use lib.ListN.{replicate}
+use Rattle.model.specs.Coordinates.{at}
 use Rattle.model.specs.Bitmaps.{Surface, paneSurface, pixels}
 use Rattle.model.specs.Record.{fresh}
 use Rattle.model.specs.Pixels.{change}
+use Rattle.model.specs.declared.Source.the-variants.{Copied}
+use Rattle.model.specs.Dots.{dot, visible}
 use Rattle.model.specs.Runs.{runs}
 use Rattle.model.specs.Calls.{started}
 use Rattle.model.proofs.Computing.{machine}
@@ -197,6 +201,14 @@ pane = paneSurface (record { width = 16; height = 3; depth = 1 }) (record { left
 
 abbrev ones : List ℕ
 ones = replicate 6 0xFF
+
+-- "in bitmap and clip": a clip that reaches beyond it makes nothing visible there
+abbrev seen : ℕ → ℕ → Bool
+seen x y = visible pane (record { xmin = 0; ymin = 0; xmax = 9; ymax = 9 }) (dot (at (pos x) (pos y)) (Copied 0))
+
+pub outside-visible : seen 5 1 ∷ seen 6 1 ∷ seen 5 2 ∷ [] ≡ true ∷ false ∷ false ∷ []
+unfolding machine
+outside-visible = refl
 
 -- it shows 0 outside, and a change there is none
 pub outside-shows :
