@@ -150,17 +150,16 @@ everyCall s k n =
     ∷ refuses s (on k clear) n
     ∷ []
 
--- a record that refusal 12 names: pane 1's bitmap is not pane 0's size; and a geometry that 6 names
-abbrev badRecord : State
-badRecord = state (drawing 1 0 0 1) busy screen stores
+-- records that refusal 12 names, and besides a geometry that 6 names
+abbrev spoilt : Geometry → State
+spoilt g =
+    record { console = record { geometry = g; count = 2; rows = rows; panes = replicate 8 (drawing 4 0 0 0) }; screen = screen; stores = stores }
+
+abbrev badRecords : State
+badRecords = spoilt geometry
 
 abbrev badDepth : State
-badDepth =
-    record {
-      console = record { geometry = record { width = 16; height = 2; depth = 3 }; count = 2; rows = rows; panes = replicate 8 (drawing 4 0 0 0) };
-      screen = screen;
-      stores = stores;
-    }
+badDepth = spoilt (record { width = 16; height = 2; depth = 3 })
 
 abbrev pub table : List Case
 table =
@@ -211,9 +210,10 @@ table =
     ∷ leaves (on 0 clear) (pos 0 ∷ []) (state asNew (drawing 1 0 0 1) screen stores)
     ∷ leaves (on 1 clear) (pos 0 ∷ []) (state busy asNew screen stores)
     -- ## 1, then 12, then a call's own; set-up's refusals before all
+    ∷ refuses begin (on 9 look) 1
     ∷ everyCall begin 2 1
-    ++ (everyCall badRecord 0 12
-    ++ (everyCall badRecord 2 1
+    ++ (everyCall badRecords 0 12
+    ++ (everyCall badRecords 2 1
     ++ (everyCall badDepth 0 6 ++ everyCall badDepth 2 6)))
 
 pub call-cases : results table ≡ due table
@@ -237,6 +237,6 @@ unfolding machine
 set-up-refused = refl
 
 -- it ignores the pane records
-pub set-up-any-records : came (setUp badRecord) ≡ record { values = pos 0 ∷ []; left = state asNew asNew screen stores }
+pub set-up-any-records : came (setUp badRecords) ≡ record { values = pos 0 ∷ []; left = state asNew asNew screen stores }
 unfolding machine
 set-up-any-records = refl

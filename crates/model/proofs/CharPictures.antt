@@ -6,7 +6,7 @@ use mathlib.Core.List.{List, [], _∷_}
 use lib.IntN.{pos}
 use Rattle.model.specs.Figures.{neg}
 use Rattle.model.proofs.Computing.{machine}
-use Rattle.model.proofs.Listings.{minus, thePane, halt, defBitmap, defClipRect, defColors, opaque, transparent, defSpace, defCharOrient, wordFont, byteFont, enterPick, exitPick, absMov, char, charTransparent, bytes}
+use Rattle.model.proofs.Listings.{minus, thePane, halt, defBitmap, defClipRect, defColors, opaque, transparent, defSpace, defCharOrient, wordFont, byteFont, enterPick, exitPick, absMov, polyline, char, charTransparent, bytes}
 use Rattle.model.proofs.Scripts.{piece}
 use Rattle.model.proofs.Pictures.{Picture, painted, blank, ended, outcomes, expectations}
 
@@ -53,8 +53,8 @@ table =
       words = 1;
       pane = record { left = 1; top = 0; width = 15; height = 4; start = 2; len = 112 };
       commands =
-          defBitmap thePane 14 3 1 ∷ defColors 0xFFFF 0x0000 ∷ wordFont 0x40 ∷ defSpace 1 ∷ absMov 0 1 ∷ charTransparent 0x38 4 ∷ enterPick
-          ∷ exitPick ∷ halt ∷ [];
+          defBitmap thePane 14 3 1 ∷ defColors 0xFFFF 0x0000 ∷ wordFont 0x40 ∷ defSpace 1 ∷ absMov 0 1 ∷ charTransparent 0x38 4 ∷ polyline 0x38 0
+          ∷ enterPick ∷ exitPick ∷ halt ∷ [];
       pieces =
           piece 0x38 (bytes (0x0008 ∷ 0x0000 ∷ 0x0010 ∷ 0x0008 ∷ [])) ∷
           piece 0x40 (bytes (0x4002 ∷ 0x0005 ∷ [])) ∷
@@ -62,7 +62,7 @@ table =
           piece 0x60 (bytes (0xB0F1 ∷ 0xFFFE ∷ [])) ∷
           [];
       before = blank 4;
-      replies = ended 8 46 (pos 11) (pos 1) 0 1;
+      replies = ended 9 54 (pos 11) (pos 1) 0 1;
       shows =
           0b00000000_00000000 ∷
           0b00110101_01100000 ∷

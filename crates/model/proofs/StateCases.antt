@@ -14,11 +14,11 @@ use Rattle.model.proofs.Computing.{machine}
 use Rattle.model.proofs.Listings.{thePane, nop, link, call, return, defBitmap, defClipRect, defColors, defLogicalOp, opaque, transparent, defSpace, defCharOrient, wordFont, byteFont, enterPick, exitPick, absMov, relMov, minus, listing}
 use Rattle.model.proofs.Scripts.{script, piece, laid}
 
--- 11 commands; CALL goes to the next one
+-- 11 commands; CALL goes to the next one. DEF_CHAR_ORIENT has all its reserved bits set, path 1 and rotation 2
 abbrev forwards : List (List ℕ)
 forwards =
     call 0x06 ∷ defBitmap 0xA0 9 2 4 ∷ defClipRect 1 0 8 2 ∷ defColors 0x1111 0x2222 ∷ defLogicalOp 0x3333 0xFF17 ∷ transparent 0x4444
-    ∷ defSpace 5 ∷ defCharOrient 1 2 ∷ wordFont 0x20666 ∷ enterPick ∷ absMov 7 (minus 8) ∷ []
+    ∷ defSpace 5 ∷ (0x4E00 ∷ 0xFDFE ∷ []) ∷ wordFont 0x20666 ∷ enterPick ∷ absMov 7 (minus 8) ∷ []
 
 -- 14 commands from 42 hex on; CALL goes to the RETURN at 8C hex, which goes back to LINK, which goes to the end
 abbrev backwards : List (List ℕ)
