@@ -1,10 +1,10 @@
 -- Laws from the definitions to the forms that code has: the position's patterns added with wrapping; a pixel blended in its byte.
-use mathlib.Core.Path.{_≡_, refl, sym, ap, ap₂, _∙_, subst}
-use mathlib.Core.Bool.{Bool, true, false, cond, _&&_}
-use Prim.Native.Nat.{ℕ, zero, suc, _+_, _-_, _*_, _/_, _%_, _≤_, _<_}
+use mathlib.Core.Path.{_≡_, refl, ap, ap₂, _∙_}
+use mathlib.Core.Bool.{Bool, cond}
+use Prim.Native.Nat.{ℕ, suc, _+_, _-_, _*_, _%_, _≤_, _<_}
 use native.Mathlib.Omega.{arith}
 use lib.Dec.{leb, ltb}
-use lib.IntN.{ℤ, pos, negsuc, subℕ, _+ℤ_}
+use lib.IntN.{subℕ, _+ℤ_}
 use Rattle.model.specs.Words.{bit, num, within, splice}
 use Rattle.model.specs.Coordinates.{coord, wrap}
 use Rattle.model.specs.Operations.{newBit}

@@ -1,4 +1,4 @@
--- Laws of the definitions, and tests of the definitions by computation.
+-- Laws of the definitions.
 pub mod Decisions
 pub mod BitLaws
 pub mod FieldLaws
@@ -12,3 +12,22 @@ pub mod SetupLaws
 pub mod CallLaws
 pub mod RunLaws
 pub mod QuietLaws
+-- Tests of the definitions by computation: what they are made of, then the bench figures, the script example, pictures, faults and refusals.
+pub mod Computing
+pub mod Listings
+pub mod Scripts
+pub mod Pictures
+pub mod Figures
+pub mod Example
+pub mod LinePictures
+pub mod PenPictures
+pub mod CopyPictures
+pub mod CharPictures
+pub mod ListPictures
+pub mod FaultCases
+pub mod DrawFaultCases
+pub mod SetupCases
+pub mod RecordCases
+pub mod CallCases
+pub mod StateCases
+pub mod TableCases

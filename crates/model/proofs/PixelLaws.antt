@@ -3,13 +3,13 @@ use mathlib.Core.Path.{_≡_, refl, sym, ap, ap₂, _∙_, subst, fun-ext}
 use mathlib.Core.Logic.{_≢_, _⊎_, inl, inr}
 use mathlib.Core.Bool.{Bool, true, false, cond, _&&_}
 use mathlib.Core.List.{List, [], _∷_}
-use Prim.Native.Nat.{ℕ, zero, suc, _+_, _-_, _*_, _^_, _/_, _%_, _≤_, _<_}
+use Prim.Native.Nat.{ℕ, _+_, _*_, _/_, _%_, _≤_, _<_}
 use native.Mathlib.Omega.{arith}
-use native.Mathlib.Decide.{ℕ-discrete, decLt}
+use native.Mathlib.Decide.{decLt}
 use lib.ListN.{length}
 use lib.Dec.{eqb}
 use Rattle.model.specs.Words.{bit, num, bitAt, fieldAt, putField}
-use Rattle.model.specs.Bitmaps.{Surface, gridBit, placeBit, inside, pixels}
+use Rattle.model.specs.Bitmaps.{Surface, placeBit, inside, pixels}
 use Rattle.model.specs.Pixels.{Change, change, changes}
 use Rattle.model.proofs.FieldLaws.{length-put, put-keeps, put-field, field-bits}
 use Rattle.model.proofs.PlaceLaws.{Depth, in-byte, in-rows, apart}

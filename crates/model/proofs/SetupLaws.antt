@@ -1,9 +1,9 @@
 -- What set-up's checks say, where they refuse nothing.
-use mathlib.Core.Path.{_≡_, refl, sym, ap, _∙_, subst}
+use mathlib.Core.Path.{_≡_, refl, sym, _∙_, subst}
 use mathlib.Core.Logic.{_≢_, _⊎_, inl, inr}
-use mathlib.Core.Bool.{Bool, true, false, not, cond, _&&_, _||_}
+use mathlib.Core.Bool.{Bool, true, false, not, _||_}
 use mathlib.Core.List.{List}
-use Prim.Native.Nat.{ℕ, zero, suc, _+_, _-_, _*_, _%_, _≤_, _<_, min, max}
+use Prim.Native.Nat.{ℕ, zero, suc, _+_, _*_, _%_, _≤_, _<_}
 use native.Mathlib.Omega.{arith}
 use native.Mathlib.Decide.{decLt, ℕ-discrete}
 use native.Mathlib.Nat.{not-suc-le-zero}
@@ -11,10 +11,10 @@ use lib.Dec.{eqb, ltb}
 use Rattle.model.specs.declared.Geometry.{Geometry}
 use Rattle.model.specs.declared.Row.{Row}
 use Rattle.model.specs.Ranges.{anyBelow, outOf}
-use Rattle.model.specs.Bitmaps.{isDepth, rowWords, shareSpan}
+use Rattle.model.specs.Bitmaps.{isDepth, shareSpan}
 use Rattle.model.specs.Setup.{rowAt, geometryBad, screenBytes, rectangleBad, storeBad, sharePixel, shareByte, checks}
 use Rattle.model.proofs.PlaceLaws.{Depth}
-use borrow.Author.Tests.{ltb-true, ltb-false, lt-ltb, eqb-true, not-false}
+use borrow.Author.Tests.{ltb-false, lt-ltb, eqb-true, not-false}
 use Rattle.model.proofs.Decisions.{both-of, either-false, either-true, cond-none, holds}
 
 pub any-below : (n : ℕ) (f : ℕ → Bool) (k : ℕ) → anyBelow n f ≡ false → k < n → f k ≡ false

@@ -1,7 +1,7 @@
 -- Bitmaps (01, "Screen, panes, stores" and DEF_BITMAP): rows of words, where a pixel lies, DEF_BITMAP's rule.
 -- The pane and a bitmap in the store are one kind of surface.
 use Prim.Native.Nat.{ℕ, _+_, _-_, _*_, _/_, _%_}
-use mathlib.Core.Bool.{Bool, true, false, cond, not, _&&_, _||_}
+use mathlib.Core.Bool.{Bool, false, cond, not, _&&_, _||_}
 use mathlib.Core.List.{List}
 use lib.Dec.{ltb, eqb}
 use Rattle.model.specs.Words.{fieldAt}

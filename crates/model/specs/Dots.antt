@@ -1,8 +1,8 @@
 -- Dots (01, "Pixels"): what a drawing command draws, as a list of places with their sources; which of them are visible, and what they change.
-use Prim.Native.Nat.{ℕ, zero, suc, _+_}
-use mathlib.Core.Bool.{Bool, true, false, cond, _&&_}
+use Prim.Native.Nat.{ℕ, _+_}
+use mathlib.Core.Bool.{Bool, true, false, _&&_}
 use mathlib.Core.List.{List, [], _∷_, _++_}
-use lib.Dec.{ltb, leb}
+use lib.Dec.{ltb}
 use lib.IntN.{ℤ, pos, negsuc}
 use Rattle.model.specs.Words.{digit}
 use Rattle.model.specs.Coordinates.{Place, Point, between, index}

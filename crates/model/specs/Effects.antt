@@ -6,7 +6,7 @@ use lib.ListN.{getD, set}
 use Rattle.model.specs.Ranges.{listed}
 use Rattle.model.specs.Coordinates.{coord, moved}
 use Rattle.model.specs.Bitmaps.{Geometry, Row, bitmapOf}
-use Rattle.model.specs.Record.{Pane, Clip, Font, Returns, withPointer, withPosition, withBitmap, withClip, withReturns, withColours, withOperation, withPattern, withSpacing, withOrientation, withFont, withPicking}
+use Rattle.model.specs.Record.{Pane, Font, Returns, withPointer, withPosition, withBitmap, withClip, withReturns, withColours, withOperation, withPattern, withSpacing, withOrientation, withFont, withPicking}
 use Rattle.model.specs.declared.Font.the-variants as font
 use Rattle.model.specs.Dots.{Drawing}
 use Rattle.model.specs.Lines.{line, pointAt, rectangle, pairsAt, polyline, triplesAt, scanLines}

@@ -8,7 +8,7 @@ use Rattle.model.specs.Ranges.{anyBelow}
 use Rattle.model.specs.Numbers.{faultBitmap, faultNoBitmap, faultClip, faultData, faultCall, faultReturn, faultNoFont, faultCopy}
 use Rattle.model.specs.Words.{wordAt}
 use Rattle.model.specs.Coordinates.{coord}
-use Rattle.model.specs.Bitmaps.{Geometry, Row, Bitmap, Surface, surfaceOf, bitmapOf, ruleBroken, touches}
+use Rattle.model.specs.Bitmaps.{Geometry, Row, Bitmap, surfaceOf, bitmapOf, ruleBroken, touches}
 use Rattle.model.specs.declared.Bitmap.the-variants as bitmap
 use Rattle.model.specs.Record.{Pane, Clip, Font}
 use Rattle.model.specs.declared.Font.the-variants as font

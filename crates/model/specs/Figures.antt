@@ -2,8 +2,8 @@
 use mathlib.Core.Path.{_≡_}
 use mathlib.Core.Bool.{false}
 use mathlib.Core.List.{List, [], _∷_, _++_}
-use Prim.Native.Nat.{ℕ, zero, suc, _+_, _-_, _*_}
-use lib.IntN.{ℤ, pos, negsuc, negℤ}
+use Prim.Native.Nat.{ℕ, suc, _+_, _-_, _*_}
+use lib.IntN.{ℤ, pos, negℤ}
 use lib.ListN.{length, replicate, getD}
 use Rattle.model.specs.Ranges.{listed}
 use Rattle.model.specs.Coordinates.{Place, at, point, moved, coord}
@@ -11,7 +11,7 @@ use Rattle.model.specs.Bitmaps.{rowWords, storeSurface, placeBit, pixels
 use Rattle.model.specs.Pixels.{Pen, blend, changes}
 use Rattle.model.specs.declared.Source.the-variants.{Copied}
 use Rattle.model.specs.Dots.{changesOf}
-use Rattle.model.specs.Lines.{major, minor, minorAt, offsetY, lineDots}
+use Rattle.model.specs.Lines.{major, offsetY, lineDots}
 use Rattle.model.specs.Copies.{copyDots}
 use Rattle.model.specs.Glyphs.{turned, descriptor}
 use Rattle.model.specs.declared.Font.the-variants as font

@@ -3,7 +3,7 @@ use Prim.Native.Nat.{ℕ, suc, _+_, _*_, _/_, min, max}
 use mathlib.Core.Bool.{Bool, true, false, cond, _||_}
 use mathlib.Core.List.{List, [], _∷_, _++_}
 use lib.Dec.{leb}
-use lib.IntN.{ℤ, pos, negsuc, negℤ, natAbs}
+use lib.IntN.{ℤ, pos, negℤ, natAbs}
 use Rattle.model.specs.Ranges.{listed}
 use Rattle.model.specs.Words.{wordAt}
 use Rattle.model.specs.Coordinates.{Place, Point, coord, signAs, offset, place, moved, samePlace}

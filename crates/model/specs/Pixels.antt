@@ -4,7 +4,7 @@ use mathlib.Core.Bool.{Bool, true, false, cond}
 use mathlib.Core.List.{List, [], _∷_}
 use Rattle.model.specs.Words.{bit, num, putField}
 use Rattle.model.specs.Operations.{newBit}
-use Rattle.model.specs.Bitmaps.{Surface, placeBit, placeShift, inside, pixels}
+use Rattle.model.specs.Bitmaps.{Surface, placeBit, inside, pixels}
 pub use Rattle.model.specs.declared.Pen.{Pen}
 pub use Rattle.model.specs.declared.Source.{Source}
 use Rattle.model.specs.declared.Source.the-variants as source

@@ -1,7 +1,7 @@
 -- The pane record (01, "Screen, panes, stores"): a fresh one, and one with a part replaced.
-use Prim.Native.Nat.{ℕ, _+_}
-use mathlib.Core.Bool.{Bool, true, false}
-use mathlib.Core.List.{List, []}
+use Prim.Native.Nat.{ℕ}
+use mathlib.Core.Bool.{Bool, false}
+use mathlib.Core.List.{[]}
 use lib.ListN.{replicate}
 use Rattle.model.specs.Numbers.{statusParked, statusEnded, statusFaulted}
 pub use Rattle.model.specs.declared.Progress.{Progress}

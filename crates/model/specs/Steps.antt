@@ -2,7 +2,7 @@
 -- answers the next record, the next store and the changes to the pane's pixels.
 use Prim.Native.Nat.{ℕ}
 use mathlib.Core.List.{List, []}
-use mathlib.Core.Bool.{Bool, cond, _&&_, _||_}
+use mathlib.Core.Bool.{cond, _&&_, _||_}
 use lib.Dec.{ltb, eqb}
 use Rattle.model.specs.Bitmaps.{Geometry, Row, Bitmap, Surface, surfaceOf}
 use Rattle.model.specs.declared.Bitmap.the-variants as bitmap

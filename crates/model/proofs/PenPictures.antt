@@ -1,0 +1,227 @@
+-- Pictures of colours, masks and operations at each depth, and of pick mode (01, "Pixels").
+-- The expected values were worked out by a small program that was written from the sentences of the paper and from 003, and not from these
+-- definitions; the smaller pictures were followed by hand too.
+use mathlib.Core.Path.{_≡_, refl}
+use mathlib.Core.List.{List, [], _∷_}
+use lib.IntN.{pos}
+use mathlib.Core.Bool.{Bool, true, false}
+use Prim.Native.Nat.{ℕ}
+use lib.ListN.{replicate}
+use Rattle.model.specs.Coordinates.{at}
+use Rattle.model.specs.Bitmaps.{Surface, paneSurface, pixels}
+use Rattle.model.specs.Record.{fresh}
+use Rattle.model.specs.Pixels.{change}
+use Rattle.model.specs.declared.Source.the-variants.{Copied}
+use Rattle.model.specs.Dots.{dot, visible}
+use Rattle.model.specs.Runs.{runs}
+use Rattle.model.specs.Calls.{started}
+use Rattle.model.proofs.Computing.{machine}
+use Rattle.model.proofs.Listings.{minus, thePane, halt, defBitmap, defClipRect, defColors, defLogicalOp, opaque, transparent, enterPick, exitPick, absMov, line, listing}
+use Rattle.model.proofs.Pictures.{Picture, blank, ended, outcomes, expectations}
+
+abbrev table : List Picture
+table =
+    -- Depth 1: colours and mask by the bits of the word where the pixel lies, so by the screen's columns; the pane begins at column 3
+    record {
+      geometry = record { width = 24; height = 2; depth = 1 };
+      words = 2;
+      pane = record { left = 3; top = 0; width = 19; height = 2; start = 2; len = 72 };
+      commands =
+          defBitmap thePane 18 1 1 ∷ defColors 0x00FF 0xFF00 ∷ line 18 0 ∷ defLogicalOp 0x3333 5 ∷ defColors 0xFFFF 0x0000 ∷ absMov 0 1
+          ∷ line 18 0 ∷ halt ∷ [];
+      pieces = [];
+      before = blank 2;
+      replies = ended 7 48 (pos 18) (pos 1) 0 0;
+      shows =
+          0b00000000_11111111_00000000_00000000 ∷
+          0b00010011_00110011_00110000_00000000 ∷
+          [];
+      stored = [];
+    }
+    -- Depth 2: a colour of eight different pixels; background where the pattern has 0
+    ∷ record {
+      geometry = record { width = 20; height = 1; depth = 2 };
+      words = 3;
+      pane = record { left = 3; top = 0; width = 15; height = 1; start = 2; len = 40 };
+      commands = defBitmap thePane 14 0 2 ∷ defColors 0x1BE4 0xFF00 ∷ opaque 0xF5F5 ∷ line 14 0 ∷ halt ∷ [];
+      pieces = [];
+      before = blank 1;
+      replies = ended 4 28 (pos 14) (pos 0) 0 0;
+      shows = 0b00_00_00_11_11_10_01_00_00_11_10_11_11_10_01_00_00_11_00_00_00_00_00_00 ∷ [];
+      stored = [];
+    }
+    -- Depth 4: XOR under a mask of one pixel's bits; the code's low four bits count
+    ∷ record {
+      geometry = record { width = 10; height = 2; depth = 4 };
+      words = 3;
+      pane = record { left = 1; top = 0; width = 8; height = 2; start = 2; len = 64 };
+      commands =
+          defBitmap thePane 7 1 4 ∷ defColors 0x1234 0x0000 ∷ defLogicalOp 0xF0F0 65526 ∷ line 7 0 ∷ defLogicalOp 0x137F 10 ∷ absMov 0 1
+          ∷ line 7 0 ∷ halt ∷ [];
+      pieces = [];
+      before =
+          0xFFFF_FFFF_FFFF ∷
+          0x0123_4567_89AB ∷
+          [];
+      replies = ended 7 48 (pos 7) (pos 1) 0 0;
+      shows =
+          0xFFCF_EFCF_EFFF ∷
+          0x014B_454B_89AB ∷
+          [];
+      stored = [];
+    }
+    -- Depth 8: even and odd columns take the high and the low byte of the colour
+    ∷ record {
+      geometry = record { width = 6; height = 3; depth = 8 };
+      words = 3;
+      pane = record { left = 1; top = 1; width = 4; height = 2; start = 2; len = 64 };
+      commands =
+          defBitmap thePane 3 1 8 ∷ defColors 0x12AB 0x0000 ∷ line 3 0 ∷ defLogicalOp 0x0FF0 7 ∷ absMov 3 1 ∷ line (minus 3) 0 ∷ halt ∷ [];
+      pieces = [];
+      before =
+          0x11_11_11_11_11_11 ∷
+          0x11_11_11_11_11_11 ∷
+          0x11_11_11_11_11_11 ∷
+          [];
+      replies = ended 6 42 (pos 0) (pos 1) 0 0;
+      shows =
+          0x11_11_11_11_11_11 ∷
+          0x11_AB_12_AB_12_11 ∷
+          0x11_B1_13_B1_13_11 ∷
+          [];
+      stored = [];
+    }
+    -- An operation other than "replace" on pixels of the background and none on those that transparency leaves out
+    ∷ record {
+      geometry = record { width = 8; height = 2; depth = 2 };
+      words = 1;
+      pane = record { left = 0; top = 0; width = 8; height = 2; start = 2; len = 64 };
+      commands =
+          defBitmap thePane 7 1 2 ∷ defColors 0xAAAA 0x5555 ∷ defLogicalOp 0xFFFF 6 ∷ opaque 0xCCCC ∷ line 7 0 ∷ transparent 0xCCCC ∷ absMov 0 1
+          ∷ line 7 0 ∷ halt ∷ [];
+      pieces = [];
+      before =
+          0b00_01_10_11_00_01_10_11 ∷
+          0b00_01_10_11_00_01_10_11 ∷
+          [];
+      replies = ended 8 50 (pos 7) (pos 1) 0 0;
+      shows =
+          0b10_11_11_10_10_11_11_10 ∷
+          0b10_11_10_11_10_11_10_11 ∷
+          [];
+      stored = [];
+    }
+    -- Pick mode: nothing is drawn, everything else happens; a pixel in the clip sets the flag, though mask and operation would keep it
+    ∷ record {
+      geometry = record { width = 16; height = 2; depth = 1 };
+      words = 1;
+      pane = record { left = 0; top = 0; width = 16; height = 2; start = 2; len = 80 };
+      commands =
+          defBitmap thePane 15 1 1 ∷ defColors 0xFFFF 0x0000 ∷ defLogicalOp 0x0000 3 ∷ enterPick ∷ defClipRect 4 0 6 1 ∷ line 4 0 ∷ halt ∷ [];
+      pieces = [];
+      before = blank 2;
+      replies = ended 6 42 (pos 4) (pos 0) 1 0;
+      shows = blank 2;
+      stored = [];
+    }
+    -- Pick mode: pixels outside the clip and zeros under transparency do not set the flag
+    ∷ record {
+      geometry = record { width = 16; height = 2; depth = 1 };
+      words = 1;
+      pane = record { left = 0; top = 0; width = 16; height = 2; start = 2; len = 80 };
+      commands =
+          defBitmap thePane 15 1 1 ∷ defColors 0xFFFF 0x0000 ∷ enterPick ∷ defClipRect 4 0 6 1 ∷ line 3 0 ∷ absMov 7 1 ∷ line 5 0
+          ∷ transparent 0xF1FF ∷ absMov 0 0 ∷ line 7 0 ∷ halt ∷ [];
+      pieces = [];
+      before = blank 2;
+      replies = ended 10 64 (pos 7) (pos 0) 0 0;
+      shows = blank 2;
+      stored = [];
+    }
+    -- ENTER_PICK clears the flag, EXIT_PICK keeps it; after it pixels are drawn again, and leave the flag alone
+    ∷ record {
+      geometry = record { width = 16; height = 2; depth = 1 };
+      words = 1;
+      pane = record { left = 0; top = 0; width = 16; height = 2; start = 2; len = 80 };
+      commands = defBitmap thePane 15 1 1 ∷ defColors 0xFFFF 0x0000 ∷ enterPick ∷ line 3 0 ∷ enterPick ∷ exitPick ∷ line 0 1 ∷ halt ∷ [];
+      pieces = [];
+      before = blank 2;
+      replies = ended 7 36 (pos 3) (pos 1) 0 0;
+      shows =
+          0b00010000_00000000 ∷
+          0b00010000_00000000 ∷
+          [];
+      stored = [];
+    }
+    -- The flag stays after EXIT_PICK, and a later drawing in pick mode that meets nothing does not clear it
+    ∷ record {
+      geometry = record { width = 16; height = 2; depth = 1 };
+      words = 1;
+      pane = record { left = 0; top = 0; width = 16; height = 2; start = 2; len = 80 };
+      commands =
+          defBitmap thePane 15 1 1 ∷ defColors 0xFFFF 0x0000 ∷ enterPick ∷ line 3 0 ∷ line 0 9 ∷ line 0 3 ∷ exitPick ∷ absMov 2 1 ∷ line 2 0
+          ∷ halt ∷ [];
+      pieces = [];
+      before = blank 2;
+      replies = ended 9 52 (pos 4) (pos 1) 1 0;
+      shows =
+          0b00000000_00000000 ∷
+          0b00111000_00000000 ∷
+          [];
+      stored = [];
+    }
+    ∷ []
+
+pub pen-pictures : outcomes table ≡ expectations table
+unfolding machine outcomes
+pen-pictures = refl
+
+-- ## Pixels visible
+
+-- a run counts the pixels that are visible: of a LINE of ten pixels five are in the clip, of these the pattern leaves one out; a LINE outside has
+-- none; in pick mode they count as well
+abbrev counted : List ℕ
+counted =
+    listing
+    (defBitmap thePane 15 1 1 ∷ defClipRect 3 0 7 1 ∷ transparent 0xFDFF ∷ line 9 0 ∷ line 5 5 ∷ enterPick ∷ absMov 7 1 ∷ line 2 0 ∷ halt ∷ [])
+
+pub hits-counted :
+    runs (record { width = 16; height = 2; depth = 1 })
+    (record { left = 0; top = 0; width = 16; height = 2; start = 0; len = 58 })
+    99 (started fresh 0) (blank 4) counted .hits
+    ≡ 5
+unfolding machine
+hits-counted = refl
+
+-- ## Outside a surface
+
+-- a pane of 6 by 2 pixels at (3,0), all bits of the screen 1
+abbrev pane : Surface
+pane = paneSurface (record { width = 16; height = 3; depth = 1 }) (record { left = 3; top = 0; width = 6; height = 2; start = 0; len = 0 })
+
+abbrev ones : List ℕ
+ones = replicate 6 0xFF
+
+-- "in bitmap and clip": a clip that reaches beyond it makes nothing visible there
+abbrev seen : ℕ → ℕ → Bool
+seen x y = visible pane (record { xmin = 0; ymin = 0; xmax = 9; ymax = 9 }) (dot (at (pos x) (pos y)) (Copied 0))
+
+pub outside-visible : seen 5 1 ∷ seen 6 1 ∷ seen 5 2 ∷ [] ≡ true ∷ false ∷ false ∷ []
+unfolding machine
+outside-visible = refl
+
+-- it shows 0 outside, and a change there is none
+pub outside-shows :
+    pixels pane ones 5 1 ∷ pixels pane ones 6 1 ∷ pixels pane ones 5 2 ∷ []
+    ≡ 1 ∷ 0 ∷ 0 ∷ []
+unfolding machine
+outside-shows = refl
+
+abbrev cleared : ℕ → ℕ → List ℕ
+cleared x y = change pane (record { x = x; y = y; new = λ v. 0 }) ones
+
+pub outside-changes :
+    cleared 5 1 ∷ cleared 6 1 ∷ cleared 5 2 ∷ []
+    ≡ (0xFF ∷ 0xFF ∷ 0b01111111 ∷ 0xFF ∷ 0xFF ∷ 0xFF ∷ []) ∷ ones ∷ ones ∷ []
+unfolding machine
+outside-changes = refl
