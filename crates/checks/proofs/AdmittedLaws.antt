@@ -5,19 +5,21 @@ use mathlib.Core.List.{List}
 use Prim.Native.Nat.{ℕ, _+_, _%_, _≤_, _<_}
 use native.Mathlib.Omega.{arith}
 use lib.Dec.{ltb, leb, eqb}
-use lib.ListN.{length}
 use borrow.Author.Tests.{ltb-false, leb-false, eqb-true, eqb-false}
 use Rattle.model.specs.declared.Geometry.{Geometry}
 use Rattle.model.specs.declared.Row.{Row}
 use Rattle.model.specs.Ranges.{anyBelow, orElse}
-use Rattle.model.specs.Setup.{rowAt, geometryBad, screenBytes, rectangleBad, storeBad, sharePixel, shareByte, anyPair, checks, mostStore, paneBad}
+use Rattle.model.specs.Bitmaps.{paneSurface}
+use Rattle.model.specs.Setup.{rowAt, geometryBad, screenBytes, rectangleBad, storeBad, checks, mostStore, paneBad}
 use Rattle.model.specs.Calls.{State, rowOf, recordOf, storeOf, setupRefusal, callRefusal}
 use Rattle.model.proofs.Decisions.{split, either-false, cond-none, cond-true, cond-false}
 use Rattle.model.proofs.SetupLaws.{any-below}
+use Rattle.model.proofs.PixelLaws.{Fits}
 use Rattle.model.proofs.PartLaws.{length-part}
 use Rattle.checks.specs.Sizes.{Sized}
-use Rattle.checks.specs.Admitted.{Placed, Admitted}
+use Rattle.checks.specs.Admitted.{Admitted}
 use Rattle.checks.proofs.SizeLaws.{even-of, geometryBad-sized}
+use Rattle.checks.proofs.BitmapLaws.{pane-fits}
 use Rattle.checks.proofs.GoodLaws.{paneBad-good}
 
 -- ## One row
@@ -119,3 +121,7 @@ callRefusal-admitted s k h =
       };
       good = paneBad-good (s .console .geometry) (rowOf s k) (recordOf s k) (c .0);
     }
+
+-- the pane's pixels lie in the screen
+pub admitted-fits : (s : State) (k : ℕ) → Admitted s k → Fits (paneSurface (s .console .geometry) (rowOf s k)) (s .screen)
+admitted-fits s k a = pane-fits (s .console .geometry) (rowOf s k) (s .screen) _ (a .placed)

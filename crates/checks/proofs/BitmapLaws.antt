@@ -1,13 +1,13 @@
 -- What DEF_BITMAP's rule and the clip's test say where they don't refuse: a bitmap's pixels lie in its buffer, and the clip in the bitmap.
-use mathlib.Core.Path.{_≡_, refl, sym, ap, _∙_}
-use mathlib.Core.Bool.{Bool, true, false, not, cond, _&&_, _||_}
+use mathlib.Core.Path.{_≡_, refl, sym}
+use mathlib.Core.Bool.{false, not, _&&_, _||_}
 use mathlib.Core.List.{List}
-use Prim.Native.Nat.{ℕ, _+_, _*_, _/_, _%_, _≤_, _<_}
+use Prim.Native.Nat.{ℕ, _+_, _%_, _≤_, _<_}
 use native.Mathlib.Omega.{arith}
 use native.Mathlib.Nat.{mul-le-mul-right}
 use lib.Dec.{ltb, eqb}
 use lib.ListN.{length}
-use borrow.Author.Tests.{ltb-false, le-ltb, eqb-true, eqb-false, not-false}
+use borrow.Author.Tests.{ltb-false, le-ltb, eqb-true, not-false}
 use Rattle.model.specs.declared.Geometry.{Geometry}
 use Rattle.model.specs.declared.Row.{Row}
 use Rattle.model.specs.declared.Bitmap.{Bitmap}
@@ -17,7 +17,6 @@ use Rattle.model.specs.declared.Surface.{Surface}
 use Rattle.model.specs.Bitmaps.{isDepth, rowWords, bitmapBytes, bitmapOf, paneAddress, paneSurface, storeSurface, surfaceOf, paneBitmapBad, storeBitmapBad, ruleBroken}
 use Rattle.model.specs.Faults.{noBitmap, clipBeyond, clipOutside}
 use Rattle.model.proofs.Decisions.{holds, both-true, either-false, cond-ind}
-use Rattle.model.proofs.PlaceLaws.{Depth}
 use Rattle.model.proofs.PixelLaws.{Fits}
 use Rattle.checks.specs.Admitted.{Placed}
 use Rattle.checks.proofs.SizeLaws.{Known, isDepth-known, even-of}

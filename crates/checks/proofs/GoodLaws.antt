@@ -1,7 +1,7 @@
 -- A good pane record is one that refusal 12 lets pass, and each part of it may be replaced by a good one.
-use mathlib.Core.Path.{_≡_, refl, sym, ap, _∙_}
-use mathlib.Core.Bool.{Bool, true, false, not, _&&_, _||_}
-use Prim.Native.Nat.{ℕ, _+_, _%_, _≤_, _<_}
+use mathlib.Core.Path.{_≡_, refl}
+use mathlib.Core.Bool.{Bool, false, not, _&&_, _||_}
+use Prim.Native.Nat.{ℕ, _%_, _≤_, _<_}
 use native.Mathlib.Omega.{arith}
 use lib.Dec.{ltb, eqb}
 use borrow.Author.Tests.{ltb-false, le-ltb, eqb-true, eqb-false, eq-eqb, ne-eqb, not-false}
@@ -12,19 +12,18 @@ use Rattle.model.specs.declared.Point.{Point}
 use Rattle.model.specs.declared.Bitmap.{Bitmap}
 use Rattle.model.specs.declared.Clip.{Clip}
 use Rattle.model.specs.declared.Font.{Font}
-use Rattle.model.specs.declared.Font.the-variants as font
 use Rattle.model.specs.declared.Flags.{Flags}
 use Rattle.model.specs.declared.Returns.{Returns}
 use Rattle.model.specs.declared.Pane.{Pane}
 use Rattle.model.specs.Ranges.{outOf}
-use Rattle.model.specs.Numbers.{statusFaulted}
+use Rattle.model.specs.Numbers.{statusRunning, statusFaulted}
 use Rattle.model.specs.Bitmaps.{ruleBroken}
 use Rattle.model.specs.Faults.{clipOutside}
 use Rattle.model.specs.Record.{fresh, withPointer, ended, faulted, withPosition, withBitmap, withClip, withColours, withOperation, withPattern, withSpacing, withOrientation, withFont, withFlags, withReturns}
 use Rattle.model.specs.Setup.{progressBad, baseBad, fontBad, paneBad}
 use Rattle.model.specs.Calls.{started}
 use Rattle.model.proofs.Decisions.{split, either-false}
-use Rattle.checks.specs.Good.{GoodProgress, GoodText, Good}
+use Rattle.checks.specs.Good.{GoodProgress, Good}
 use Rattle.checks.proofs.SizeLaws.{even-of}
 
 -- ## Refusal 12's tests
@@ -115,9 +114,9 @@ module _ {g : Geometry} {r : Row} {p : Pane} (q : Good g r p) where
   }
 
   -- only a running list ends
-  pub good-ended : p .progress .fault ≡ 0 → Good g r (ended p)
-  good-ended e = record {
-    progress = record { status = omega arith; least = λ f. absurd (omega arith); most = λ f. absurd (omega arith); none = λ f. e };
+  pub good-ended : p .progress .status ≡ statusRunning → Good g r (ended p)
+  good-ended h = record {
+    progress = record { status = omega arith; least = λ f. absurd (omega arith); most = λ f. absurd (omega arith); none = λ f. q .progress .none (λ e. omega arith) };
     rule = q .rule;
     clip = q .clip;
     op = q .op;

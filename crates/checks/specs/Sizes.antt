@@ -6,6 +6,7 @@ use mathlib.Core.List.{List}
 use lib.Dec.{ltb}
 use Rattle.model.specs.declared.Geometry.{Geometry}
 use Rattle.model.specs.declared.Row.{Row}
+use Rattle.checks.specs.declared.table.Findings.{Findings}
 use Rattle.model.specs.Ranges.{anyBelow}
 use Rattle.model.specs.Numbers.{refuseScreen, refuseRectangle, refuseStore, refuseOverlap, refuseShared}
 use Rattle.model.specs.Bitmaps.{isDepth}
@@ -25,6 +26,13 @@ someRow n f rows = anyBelow n (λ k. f (rowAt rows k))
 -- some two of the first n rows pass the test
 unfoldable pub somePair : ℕ → (Row → Row → Bool) → List Row → Bool
 somePair n f rows = anyPair n f rows
+
+-- which of the refusals 8 to 11 the first n rows give
+pub record Found (stores : ℕ) (g : Geometry) (rows : List Row) (n : ℕ) (f : Findings) : Type 0 where
+  pub rectangle : f .rectangle ≡ someRow n (rectangleBad g) rows
+  pub store : f .store ≡ someRow n (storeBad stores) rows
+  pub pixel : f .pixel ≡ somePair n sharePixel rows
+  pub byte : f .byte ≡ somePair n shareByte rows
 
 -- the first of the refusals 7 to 11 that applies, or 0
 unfoldable pub tableChecks : Geometry → ℕ → List Row → ℕ → ℕ → ℕ

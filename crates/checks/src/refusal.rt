@@ -6,6 +6,12 @@ use model::Console;
 ghost use mathlib.Core.Path.{_≡_};
 ghost use Rattle.model.specs.Calls.{callRefusal};
 
+// No such pane.
+const REFUSE_PANE: u8 = 1;
+
+// A pane record that no command leaves.
+const REFUSE_RECORD: u8 = 12;
+
 // The first refusal that applies to a call on the pane with a number, or 0.
 pub fn call_refusal(screen: &[u8], stores: &[u8], c: Console, number: u32) -> u8
     ensures { λ r. ⌜ r ≡ callRefusal (record { console = c; screen = now (screen .entry); stores = now (stores .entry) }) number ⌝ }
@@ -15,11 +21,11 @@ pub fn call_refusal(screen: &[u8], stores: &[u8], c: Console, number: u32) -> u8
         return first;
     }
     if c.count <= number {
-        return 1;
+        return REFUSE_PANE;
     }
     let k = number as usize;
     let row = c.rows[k];
     let p = c.panes[k];
     let g = c.geometry;
-    refuse(pane_bad(g, row, p), 12, 0)
+    refuse(pane_bad(g, row, p), REFUSE_RECORD, 0)
 }

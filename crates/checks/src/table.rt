@@ -10,10 +10,23 @@ ghost use mathlib.Core.Bool.{cond};
 ghost use Prim.Native.Nat.{_≤_};
 ghost use Rattle.model.specs.Ranges.{outOf};
 ghost use Rattle.model.specs.Setup.{geometryBad, screenBytes, rectangleBad, storeBad, sharePixel, shareByte, checks};
-ghost use Rattle.checks.specs.Sizes.{Sized, someRow, somePair, tableChecks};
+ghost use Rattle.checks.specs.Sizes.{Sized, someRow, Found, tableChecks};
 
 // The longest store.
 const MOST_STORE: u32 = 2097152;
+
+// Set-up's refusals.
+const REFUSE_GEOMETRY: u8 = 6;
+
+const REFUSE_SCREEN: u8 = 7;
+
+const REFUSE_RECTANGLE: u8 = 8;
+
+const REFUSE_STORE: u8 = 9;
+
+const REFUSE_OVERLAP: u8 = 10;
+
+const REFUSE_SHARED: u8 = 11;
 
 // Whether a number is below lo or above hi.
 pub fn out_of(lo: u32, hi: u32, n: u32) -> bool
@@ -87,13 +100,13 @@ fn share_byte(a: Row, b: Row) -> bool
     )
 }
 
-// What a row shares with the first rows.
+// Whether a row shares a pixel, or a byte of its store, with one of the first rows.
 pub struct Sharing {
     pub pixel: bool,
     pub byte: bool,
 }
 
-// What the first rows have of the faults 8 to 11.
+// Which of the refusals 8 to 11 the first rows give.
 pub struct Findings {
     pub rectangle: bool,
     pub store: bool,
@@ -101,7 +114,7 @@ pub struct Findings {
     pub byte: bool,
 }
 
-// What a row shares with some of the first n rows.
+// Whether a row shares a pixel, or a byte of its store, with one of the first n rows.
 fn shared(rows: [Row; 8], n: usize, r: Row) -> Sharing
     requires { ⌜ n ≤ 8 ⌝ }
     ensures { λ res. ⌜ (res .pixel ≡ someRow n (λ s. sharePixel s r) rows) × (res .byte ≡ someRow n (λ s. shareByte s r) rows) ⌝ }
@@ -118,10 +131,10 @@ fn shared(rows: [Row; 8], n: usize, r: Row) -> Sharing
     Sharing { pixel, byte }
 }
 
-// What some row, or some two rows, of the first n have.
+// Which of the refusals 8 to 11 some row, or some two rows, of the first n give.
 fn found(stores: usize, g: Geometry, rows: [Row; 8], n: usize) -> Findings
     requires { ⌜ n ≤ 8 ⌝ }
-    ensures { λ res. ⌜ (res .rectangle ≡ someRow n (rectangleBad g) rows) × (res .store ≡ someRow n (storeBad stores) rows) × (res .pixel ≡ somePair n sharePixel rows) × (res .byte ≡ somePair n shareByte rows) ⌝ }
+    ensures { λ res. ⌜ Found stores g rows n res ⌝ }
 {
     let mut rectangle = false;
     let mut store = false;
@@ -158,9 +171,13 @@ fn table_refusal(screen: usize, stores: usize, g: Geometry, rows: [Row; 8], n: u
     ensures { λ res. ⌜ res ≡ tableChecks g n rows screen stores ⌝ }
 {
     let f = found(stores, g, rows, n);
-    let shared = refuse(f.pixel, 10, refuse(f.byte, 11, 0));
-    let row = refuse(f.rectangle, 8, refuse(f.store, 9, shared));
-    refuse(screen < screen_bytes(g), 7, row)
+    let pair = refuse(f.pixel, REFUSE_OVERLAP, refuse(f.byte, REFUSE_SHARED, 0));
+    let row = refuse(
+        f.rectangle,
+        REFUSE_RECTANGLE,
+        refuse(f.store, REFUSE_STORE, pair),
+    );
+    refuse(screen < screen_bytes(g), REFUSE_SCREEN, row)
 }
 
 // The first of set-up's refusals that applies, by the lengths of the two buffers, or 0.
@@ -170,7 +187,7 @@ pub fn setup_refusal(screen: usize, stores: usize, c: Console) -> u8
     let g = c.geometry;
     let rows = c.rows;
     if geometry_bad(g, c.count) {
-        return 6;
+        return REFUSE_GEOMETRY;
     }
     table_refusal(screen, stores, g, rows, c.count as usize)
 }

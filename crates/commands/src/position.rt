@@ -31,7 +31,7 @@ pub fn rel_mov(p: Pane, dx: u16, dy: u16, next: u32) -> Pane
 }
 
 // A drawing with so many visible pixels, which ends at a position and may set the trap flag: in pick mode the pick flag is set if there are any.
-pub fn drew(p: Pane, next: u32, position: Point, trap: bool, hits: u64) -> Pane
+pub fn drew(p: Pane, next: u32, position: Point, trap: bool, hits: usize) -> Pane
     ensures { λ r. ⌜ r ≡ drewPane p next (record { dots = []; position = position; trap = trap }) hits ⌝ }
 {
     let pick = p.flags.pick | (p.flags.picking & (0 < hits));

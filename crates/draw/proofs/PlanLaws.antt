@@ -22,7 +22,7 @@ use Rattle.draw.specs.Targets.{isPane, targetOf}
 use Rattle.draw.proofs.CanvasLaws.{changesIf, paintedAll-hits, paintedAll-screen, paintedAll-store}
 
 -- the canvas after a pane's drawing
-pub canvasOf : Geometry → Row → Pane → Drawing → List ℕ → List ℕ → Canvas
+unfoldable pub canvasOf : Geometry → Row → Pane → Drawing → List ℕ → List ℕ → Canvas
 canvasOf g r p d screen store = paintedAll (targetOf g r p) (d .dots) (canvas screen store 0)
 
 -- changes are made in the buffer that holds the bitmap, and none in pick mode

@@ -82,7 +82,7 @@ pub fn surface_of(g: Geometry, r: Row, b: Bitmap) -> Surface
 }
 
 // Whether a bitmap is the pane.
-fn is_pane(b: Bitmap) -> bool
+pub fn is_pane(b: Bitmap) -> bool
     ensures { λ r. ⌜ r ≡ isPane b ⌝ }
 {
     match b {

@@ -365,3 +365,12 @@ module _ (p : Place) (dx dy : ℤ) where
       go (yes e) (no f) = rw (new3 f, old4 (inl e), e, no-eqb b f) refl
       go (no e) (yes f) = rw (old3 f, old4 (inr f), no-eqb a e, f) refl
       go (no e) (no f) = rw (new3 f, new4 e f, no-eqb a e, no-eqb b f) refl
+
+  -- .. by its four sides
+  pub once-sides : once [] (walk p dx dy)
+      ≡ listed 0 (suc (natAbs dx)) (λ i. offset p (signAs dx i) (signAs dy 0))
+      ++ (listed 1 (natAbs dy) (λ j. offset p (signAs dx (natAbs dx)) (signAs dy j))
+      ++ (cond (eqb (natAbs dy) 0) [] (listed 1 (natAbs dx) (λ i. offset p (signAs dx (natAbs dx - i)) (signAs dy (natAbs dy))))
+      ++ cond (eqb (natAbs dx) 0 || eqb (natAbs dy) 0) [] (listed 1 (natAbs dy - 1) (λ j. offset p (signAs dx 0) (signAs dy (natAbs dy - j))))))
+  unfolding outline spot a b
+  once-sides = outline-once

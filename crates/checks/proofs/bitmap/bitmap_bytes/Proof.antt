@@ -1,5 +1,5 @@
--- A store bitmap's bytes: of 65,536 by 65,536 pixels of 16 bits at most, they fit.
-use Prim.Native.Nat.{ℕ, _+_, _*_, _/_, _≤_}
+-- A store bitmap's bytes: width, height and bits per pixel are 16-bit words, so that their product fits.
+use Prim.Native.Nat.{_+_, _*_, _≤_}
 use native.Mathlib.Omega.{arith}
 use native.Mathlib.Nat.{mul-le-mul}
 use borrow.Author.Needs.{needs}

@@ -57,7 +57,7 @@ returns : tie.Need-returns Inv-loop μ-loop
 returns c =
     let e = le-antisymm (c .before .loop .inv .0) (c .loop-test .left) in
     let v = c .before .loop .inv in
-    (rw e at (v .1), rw e at (v .2), rw e at (v .3), rw e at (v .4))
+    record { rectangle = rw e at (v .1); store = rw e at (v .2); pixel = rw e at (v .3); byte = rw e at (v .4) }
 
 pub found-spec : {M : Type 1} → statement M
 found-spec =

@@ -1,5 +1,5 @@
 -- The screen's bytes: of 4,096 by 4,096 pixels of 8 bits at most, they fit.
-use Prim.Native.Nat.{ℕ, _+_, _*_, _/_, _≤_}
+use Prim.Native.Nat.{_*_, _≤_}
 use native.Mathlib.Omega.{arith}
 use native.Mathlib.Nat.{mul-le-mul}
 use borrow.Author.Needs.{needs}

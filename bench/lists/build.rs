@@ -1,0 +1,4 @@
+fn main() {
+    println!("cargo:rustc-link-search=native=../../target/staticlib");
+    println!("cargo:rustc-link-lib=static=consolebench");
+}

@@ -1,0 +1,5 @@
+-- Laws of the calls.
+pub mod CallLaws
+pub mod AcceptedLaws
+pub mod PartLaws
+pub mod RanLaws

@@ -1,0 +1,2 @@
+-- What the contracts of the console cite beside paper 01's definitions.
+pub mod Answers

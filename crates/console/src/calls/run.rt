@@ -1,0 +1,66 @@
+// Run: commands of a pane's list done, while its status is 1 and budget is left.
+use crate::Answered;
+use crate::record::refused;
+use crate::record::with_record;
+use checks::refusal::call_refusal;
+use model::Console;
+use model::Pane;
+use model::Ran;
+use model::Reply;
+ghost use mathlib.Core.Path.{_≡_};
+ghost use Prim.Native.Nat.{ℕ};
+ghost use Rattle.model.specs.Calls.{exec, on, ownRefusal};
+ghost use Rattle.model.specs.Calls as calls;
+ghost use Rattle.model.specs.declared.Row.{Row};
+ghost use Rattle.console.specs.Answers.{state, answer};
+
+// A status that isn't 1.
+const REFUSE_STATUS: u8 = 4;
+
+// Run's own refusal: 4 if the pane's status isn't 1, or 0.
+fn run_refusal(pane: Pane) -> u8
+    ensures { λ r. ⌜ ((row : Row) (budget : ℕ) → r ≡ ownRefusal row pane (calls.run budget)) ⌝ }
+{
+    if pane.progress.status == 1 {
+        return 0;
+    }
+    REFUSE_STATUS
+}
+
+// Does at most so many commands of the pane with a number; refused 4 if its status isn't 1. Answers the commands done, the status and the
+// fault. The pane's own part of the stores is lent on, and nothing else of it.
+pub fn run(
+    screen: &mut [u8],
+    stores: &mut [u8],
+    console: Console,
+    number: u32,
+    budget: u32,
+) -> Answered
+    ensures { λ r. ⌜ answer (r .console) (r .reply) (now (screen .exit)) (now (stores .exit)) ≡ exec (state console (now (screen .entry)) (now (stores .entry))) (on number (calls.run budget)) ⌝ }
+{
+    let first = call_refusal(screen, stores, console, number);
+    if first != 0 {
+        return refused(console, first);
+    }
+    let k = number as usize;
+    let row = console.rows[k];
+    let pane = console.panes[k];
+    let own = run_refusal(pane);
+    if own != 0 {
+        return refused(console, own);
+    }
+    let geometry = console.geometry;
+    let start = row.start as usize;
+    let end = start + row.len as usize;
+    let s = gp::run(screen, &mut stores[start..end], geometry, row, pane, budget);
+    let after = s.pane;
+    let next = with_record(console, k, after);
+    Answered {
+        console: next,
+        reply: Reply::Ran(Ran {
+            commands: s.count,
+            status: after.progress.status,
+            fault: after.progress.fault,
+        }),
+    }
+}

@@ -1,0 +1,2 @@
+-- Laws of a copy's checks.
+pub mod RowLaws

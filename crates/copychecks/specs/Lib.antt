@@ -1,0 +1,1 @@
+-- The contracts of `copychecks` cite model's definitions.

@@ -1,0 +1,78 @@
+-- A sound pane with an active bitmap is ready to be drawn on, and a drawing's plan is its dots painted.
+use mathlib.Core.Path.{_≡_, refl, sym, ap, _∙_}
+use mathlib.Core.Bool.{Bool, true, false, cond}
+use mathlib.Core.List.{List}
+use Prim.Native.Nat.{ℕ, _+_, _*_, _≤_, _<_}
+use native.Mathlib.Omega.{arith}
+use lib.ListN.{length, replicate, length-replicate}
+use Rattle.model.specs.declared.Geometry.{Geometry}
+use Rattle.model.specs.declared.Row.{Row}
+use Rattle.model.specs.declared.Pane.{Pane}
+use Rattle.model.specs.declared.Point.{Point}
+use Rattle.model.specs.declared.Bitmap.{Bitmap}
+use Rattle.model.specs.declared.Bitmap.the-variants as bitmap
+use Rattle.model.specs.declared.Surface.{Surface}
+use Rattle.model.specs.Bitmaps.{surfaceOf, paneSurface, storeSurface, ruleBroken, pixels}
+use Rattle.model.specs.Dots.{Drawing}
+use Rattle.model.specs.Faults.{noBitmap}
+use Rattle.model.specs.declared.Command.{Command}
+use Rattle.model.specs.Effects.{Effect, draws, effectOf}
+use Rattle.model.specs.Runs.{carried}
+use Rattle.model.specs.Steps.{drewPane, planOf}
+use Rattle.model.proofs.PixelLaws.{Fits}
+use Rattle.checks.specs.Admitted.{Placed}
+use Rattle.checks.proofs.BitmapLaws.{Within, ruleBroken-store, bitmap-fits-screen, bitmap-fits-store, clip-within}
+use Rattle.draw.specs.declared.Target.{Target}
+use Rattle.draw.specs.Canvas.{Canvas, canvas, paintedAll, rowsEnd}
+use Rattle.draw.specs.Targets.{Ready, isPane, targetOf}
+use Rattle.draw.proofs.PlanLaws.{canvasOf, planned}
+use Rattle.drawing.specs.Stepping.{Sound, Left, left, leftOf, done}
+
+-- a surface of so many columns lies in its buffer
+record Room (s : Surface) (size : ℕ) : Type 0 where
+  fits : (l : List ℕ) → length l ≡ size → Fits s l
+  small : s .left + s .width ≤ 65536
+
+room : (g : Geometry) (r : Row) (b : Bitmap) (m n : ℕ) → Placed g r m n → noBitmap b ≡ false → ruleBroken g r b ≡ false → Room (surfaceOf g r b) (cond (isPane b) m n)
+unfolding surfaceOf paneSurface storeSurface
+room g r bitmap.Absent m n p e h = let z : _≡_ {A = ℕ} 0 1 = cc in absurd (let f : ⊥ = omega arith in f)
+room g r (bitmap.Pane x y b) m n p e h = record {
+  fits = λ l q. bitmap-fits-screen g r l n x y b (rw q p);
+  small = omega (arith, p .right, p .width);
+}
+room g r (bitmap.Store a x y b) m n p e h = record {
+  fits = λ l q. bitmap-fits-store g r l a x y b h (q ∙ p .part);
+  small = omega (arith, ruleBroken-store g r x y b a h .right);
+}
+
+pub ready-of : (g : Geometry) (r : Row) (p : Pane) (m n : ℕ) → Sound g r p m n → noBitmap (p .bitmap) ≡ false → Ready (targetOf g r p) m n
+unfolding targetOf
+ready-of g r p m n h a =
+    let size : ℕ = cond (isPane (p .bitmap)) m n in
+    let o = room g r (p .bitmap) m n (h .placed) a (h .good .rule) in
+    let e : length (replicate {A = ℕ} size 0) ≡ size = length-replicate {A = ℕ} size 0 in
+    let f = o .fits (replicate {A = ℕ} size 0) e in
+    let c = clip-within g r (p .bitmap) (p .clip) a (h .good .rule) (h .good .clip) in
+    record {
+      depth = f .depth;
+      right = f .right;
+      small = o .small;
+      long = omega (arith, f .long, e);
+      east = c .right;
+      south = c .bottom;
+      table = refl;
+    }
+
+-- what a command that painted a drawing's dots leaves, with its position and trap flag in the record
+pub drew-painted : (g : Geometry) (r : Row) (p : Pane) (next : ℕ) (c : Command) (d : Drawing) (screen store screen′ store′ : List ℕ) (hits : ℕ) (q : Pane)
+    → noBitmap (p .bitmap) ≡ false
+    → effectOf g r p (pixels (paneSurface g r) screen) store next c ≡ draws d
+    → canvas screen′ store′ hits ≡ paintedAll (targetOf g r p) (d .dots) (canvas screen store 0)
+    → q ≡ drewPane p next d hits
+    → left 1 q screen′ store′ ≡ done g r p next c screen store
+unfolding done canvasOf
+drew-painted g r p next c d screen store screen′ store′ hits q a k e f =
+    ap (λ (z : Pane). left 1 z screen′ store′) f
+    ∙ ap (λ (z : Canvas). left 1 (drewPane p next d (z .hits)) (z .screen) (z .store)) e
+    ∙ sym (ap leftOf (planned g r p d screen store a next))
+    ∙ sym (ap (λ (z : Effect). leftOf (carried g r (planOf g r p store next z) screen)) k)

@@ -1,0 +1,2 @@
+-- What the contracts of `drawing` cite beside model's definitions.
+pub mod Stepping

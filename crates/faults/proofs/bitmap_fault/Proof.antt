@@ -1,0 +1,16 @@
+-- The test on the bitmap is the definition's.
+use borrow.Author.Needs.{needs}
+use Rattle.faults.proofs.bitmap_fault.Statement.{statement}
+use Rattle.faults.proofs.bitmap_fault.Tie as tie
+
+rule-broken-requires : tie.Need-rule-broken-requires
+rule-broken-requires c κs = search needs
+
+refuse-requires : tie.Need-refuse-requires
+refuse-requires c κs = search needs
+
+returns : tie.Need-returns
+returns c = cc
+
+pub bitmap-fault-spec : {M : Type 1} → statement M
+bitmap-fault-spec = tie.close (tie.spec rule-broken-requires refuse-requires returns)

@@ -1,0 +1,16 @@
+-- The test on the active bitmap is the definition's.
+use borrow.Author.Needs.{needs}
+use Rattle.faults.proofs.draw_fault.Statement.{statement}
+use Rattle.faults.proofs.draw_fault.Tie as tie
+
+no-bitmap-requires : tie.Need-no-bitmap-requires
+no-bitmap-requires c κs = search needs
+
+refuse-requires : tie.Need-refuse-requires
+refuse-requires c κs = search needs
+
+returns : tie.Need-returns
+returns c = cc
+
+pub draw-fault-spec : {M : Type 1} → statement M
+draw-fault-spec = tie.close (tie.spec no-bitmap-requires refuse-requires returns)

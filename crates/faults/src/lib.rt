@@ -1,0 +1,247 @@
+// Each command's fault, looked for before any of that command is done.
+use checks::table::refuse;
+use copychecks::block_bad;
+use draw::surface_of;
+use model::Bitmap;
+use model::Clip;
+use model::Command;
+use model::Font;
+use model::Geometry;
+use model::Pane;
+use model::Returns;
+use model::Row;
+ghost use mathlib.Core.Path.{_≡_};
+ghost use mathlib.Core.Bool.{false, cond, _||_};
+ghost use Prim.Native.Nat.{_%_, _≤_, _<_, _^_};
+ghost use lib.Dec.{eqb, leb};
+ghost use lib.ListN.{length};
+ghost use Rattle.model.specs.Numbers.{faultBitmap, faultNoBitmap, faultClip, faultData, faultCall, faultReturn, faultNoFont, faultCopy};
+ghost use Rattle.model.specs.Bitmaps.{surfaceOf, ruleBroken};
+ghost use Rattle.model.specs.Copies.{blockBad};
+ghost use Rattle.model.specs.Faults.{noBitmap, noFont, clipOutside, arrayBad, stringBad, descriptorsBad, block, copyFault, faultOf};
+ghost use Rattle.decoder.proofs.DecodeLaws.{Addressed};
+ghost use Rattle.glyphs.specs.Reading as reading;
+ghost use Rattle.faults.specs.Sound.{clipOf, sourceOf, Active, Sound};
+
+// "DEF_BITMAP: 22 rule broken", and so for BIT_BLT_M's source.
+const FAULT_BITMAP: u8 = 22;
+
+// "DEF_CLIP_RECT: 23 no bitmap", and so for drawing commands.
+const FAULT_NO_BITMAP: u8 = 23;
+
+// "24 outside it": a clip that the bitmap does not hold.
+const FAULT_CLIP: u8 = 24;
+
+// "DEF_CHAR_SET: 25 odd base"; "25 an array, string, offset word or descriptor at an odd address, outside the store or
+// touching the active bitmap".
+const FAULT_DATA: u8 = 25;
+
+// "CALL: 26 eight kept."
+const FAULT_CALL: u8 = 26;
+
+// "RETURN: 27 none kept."
+const FAULT_RETURN: u8 = 27;
+
+// "CHAR 28 no font."
+const FAULT_NO_FONT: u8 = 28;
+
+// "29 a copy's dx or dy negative, its source outside its bitmap, or BIT_BLT_M's source sharing a byte with the active
+// bitmap."
+const FAULT_COPY: u8 = 29;
+
+// ---- Commands that change the record alone
+
+// DEF_CHAR_SET's fault.
+fn font_fault(base: u32) -> u8
+    ensures { λ f. ⌜ f ≡ cond (eqb (base % 2) 1) faultData 0 ⌝ }
+{
+    refuse(base % 2 == 1, FAULT_DATA, 0)
+}
+
+// CALL's fault.
+fn call_fault(kept: Returns) -> u8
+    ensures { λ f. ⌜ f ≡ cond (leb 8 (kept .count)) faultCall 0 ⌝ }
+{
+    refuse(8 <= kept.count, FAULT_CALL, 0)
+}
+
+// RETURN's fault.
+fn return_fault(kept: Returns) -> u8
+    ensures { λ f. ⌜ f ≡ cond (eqb (kept .count) 0) faultReturn 0 ⌝ }
+{
+    refuse(kept.count == 0, FAULT_RETURN, 0)
+}
+
+// DEF_BITMAP's fault.
+fn bitmap_fault(g: Geometry, r: Row, b: Bitmap) -> u8
+    ensures { λ f. ⌜ f ≡ cond (ruleBroken g r b) faultBitmap 0 ⌝ }
+{
+    refuse(checks::bitmap::rule_broken(g, r, b), FAULT_BITMAP, 0)
+}
+
+// ---- Commands that need the active bitmap
+
+// The fault of a command that needs the active bitmap, or the rest where there is one.
+fn draw_fault(active: Bitmap, rest: u8) -> u8
+    ensures { λ f. ⌜ f ≡ cond (noBitmap active) faultNoBitmap rest ⌝ }
+{
+    refuse(checks::bitmap::no_bitmap(active), FAULT_NO_BITMAP, rest)
+}
+
+// DEF_CLIP_RECT's fault.
+fn clip_fault(active: Bitmap, xmin: u16, ymin: u16, xmax: u16, ymax: u16) -> u8
+    ensures { λ f. ⌜ f ≡ cond (noBitmap active) faultNoBitmap (cond (clipOutside active (clipOf xmin ymin xmax ymax)) faultClip 0) ⌝ }
+{
+    let clip = Clip {
+        xmin,
+        ymin,
+        xmax,
+        ymax,
+    };
+    let outside = checks::bitmap::clip_outside(active, clip);
+    draw_fault(active, refuse(outside, FAULT_CLIP, 0))
+}
+
+// The fault of POLYLINE or SCAN_LINES, whose array has so many bytes.
+fn array_fault(r: Row, active: Bitmap, array: u32, size: usize) -> u8
+    requires { ⌜ (array < 0x400000) × (size < 2 ^ 32) ⌝ }
+    ensures { λ f. ⌜ f ≡ cond (noBitmap active) faultNoBitmap (cond (arrayBad r active array size) faultData 0) ⌝ }
+{
+    let bad = checks::bitmap::array_bad(r, active, array as usize, size);
+    draw_fault(active, refuse(bad, FAULT_DATA, 0))
+}
+
+// Whether there is no font.
+fn no_font(font: Font) -> bool
+    ensures { λ b. ⌜ b ≡ noFont font ⌝ }
+{
+    match font {
+        Font::Absent => true,
+        Font::Word(_) => false,
+        Font::Byte(_) => false,
+    }
+}
+
+// CHAR's fault.
+fn char_fault(store: &[u8], r: Row, active: Bitmap, font: Font, string: u32, count: u16) -> u8
+    requires { ⌜ reading.Addressed r (now store) font string ⌝ }
+    ensures { λ f. ⌜ f ≡ cond (noBitmap active) faultNoBitmap (cond (noFont font) faultNoFont (cond (stringBad r active (now (store .entry)) font string count || descriptorsBad r active (now (store .entry)) font string count) faultData 0)) ⌝ }
+{
+    let bad = glyphs::char_bad(store, r, active, font, string, count);
+    let absent = no_font(font);
+    let fault = refuse(absent, FAULT_NO_FONT, refuse(bad, FAULT_DATA, 0));
+    draw_fault(active, fault)
+}
+
+// ---- Copies
+
+// BIT_BLT's fault: the source lies in the active bitmap.
+fn block_fault(g: Geometry, r: Row, active: Bitmap, x: u16, y: u16, dx: u16, dy: u16) -> u8
+    requires { ⌜ (g .width ≤ 4096) × (g .depth ≤ 8) ⌝ }
+    ensures { λ f. ⌜ f ≡ cond (noBitmap active) faultNoBitmap (cond (blockBad (surfaceOf g r active) (block x y dx dy)) faultCopy 0) ⌝ }
+{
+    let bad = block_bad(surface_of(g, r, active), x, y, dx, dy);
+    draw_fault(active, refuse(bad, FAULT_COPY, 0))
+}
+
+// BIT_BLT_M's fault but for 23, by its source bitmap. What the source shares with the active bitmap is looked at last,
+// since only a rectangle inside a bitmap that keeps the rule has all its bytes in the store.
+fn copy_fault(
+    g: Geometry,
+    r: Row,
+    active: Bitmap,
+    source: Bitmap,
+    x: u16,
+    y: u16,
+    dx: u16,
+    dy: u16,
+) -> u8
+    requires { ⌜ Active g r active × (noBitmap source ≡ false) ⌝ }
+    ensures { λ f. ⌜ f ≡ copyFault g r active source (block x y dx dy) ⌝ }
+{
+    if checks::bitmap::rule_broken(g, r, source) {
+        return FAULT_BITMAP;
+    }
+    let s = surface_of(g, r, source);
+    if block_bad(s, x, y, dx, dy) {
+        return FAULT_COPY;
+    }
+    let shared = copychecks::sharing(active, source, s, x, y, dx, dy);
+    refuse(shared, FAULT_COPY, 0)
+}
+
+// The bitmap that BIT_BLT_M names: it has the active bitmap's bits per pixel.
+fn source_of(g: Geometry, r: Row, active: Bitmap, address: u32, xmax: u16, ymax: u16) -> Bitmap
+    requires { ⌜ Active g r active ⌝ }
+    ensures { λ b. ⌜ (b ≡ sourceOf g r active address xmax ymax) × (noBitmap b ≡ false) ⌝ }
+{
+    let s = surface_of(g, r, active);
+    checks::bitmap::bitmap_of(address, xmax, ymax, s.bits as u16)
+}
+
+// ---- All commands
+
+// A command's fault, or 0 for none.
+pub fn fault_of(store: &[u8], g: Geometry, r: Row, p: Pane, c: Command) -> u8
+    requires { ⌜ Sound g r p (length (now store)) × Addressed c ⌝ }
+    ensures { λ f. ⌜ f ≡ faultOf g r p (now (store .entry)) c ⌝ }
+{
+    let active = p.bitmap;
+    let kept = p.returns;
+    let text = p.text;
+    let font = text.font;
+    match c {
+        Command::Link { address: _ } => 0,
+        Command::Nop => 0,
+        Command::DefTexture {
+            pattern: _,
+            transparent: _,
+        } => 0,
+        Command::DefCharSet { base, bytes: _ } => font_fault(base),
+        Command::Call { address: _ } => call_fault(kept),
+        Command::Return => return_fault(kept),
+        Command::DefBitmap {
+            address,
+            xmax,
+            ymax,
+            bits,
+        } => bitmap_fault(g, r, checks::bitmap::bitmap_of(address, xmax, ymax, bits)),
+        Command::DefColors { fore: _, back: _ } => 0,
+        Command::DefLogicalOp { mask: _, code: _ } => 0,
+        Command::EnterPick => 0,
+        Command::ExitPick => 0,
+        Command::DefClipRect {
+            xmin,
+            ymin,
+            xmax,
+            ymax,
+        } => clip_fault(active, xmin, ymin, xmax, ymax),
+        Command::DefSpace { spacing: _ } => 0,
+        Command::DefCharOrient { orientation: _ } => 0,
+        Command::AbsMov { x: _, y: _ } => 0,
+        Command::RelMov { dx: _, dy: _ } => 0,
+        Command::Point { dx: _, dy: _ } => draw_fault(active, 0),
+        Command::Line { dx: _, dy: _ } => draw_fault(active, 0),
+        Command::Rect { dx: _, dy: _ } => draw_fault(active, 0),
+        Command::BitBlt { x, y, dx, dy } => block_fault(g, r, active, x, y, dx, dy),
+        Command::Polyline { array, count } => array_fault(r, active, array, 4 * (count as usize)),
+        Command::Char {
+            string,
+            count,
+            transparent: _,
+        } => char_fault(store, r, active, font, string, count),
+        Command::BitBltM {
+            address,
+            xmax,
+            ymax,
+            x,
+            y,
+            dx,
+            dy,
+        } => {
+            let source = source_of(g, r, active, address, xmax, ymax);
+            draw_fault(active, copy_fault(g, r, active, source, x, y, dx, dy))
+        }
+        Command::ScanLines { array, count } => array_fault(r, active, array, 6 * (count as usize)),
+    }
+}

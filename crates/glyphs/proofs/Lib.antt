@@ -1,0 +1,7 @@
+-- Laws that belong to no one function.
+pub mod FontLaws
+pub mod DataLaws
+pub mod CheckLaws
+pub mod PathLaws
+pub mod CellLaws
+pub mod StringLaws

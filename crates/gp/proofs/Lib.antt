@@ -1,0 +1,5 @@
+-- Laws of steps and runs.
+pub mod KeepLaws
+pub mod RunningLaws
+pub mod PerformLaws
+pub mod ObeyLaws

@@ -1,0 +1,6 @@
+-- Laws of lines.
+pub mod PaintLaws
+pub mod SegmentLaws
+pub mod RectLaws
+pub mod ReachLaws
+pub mod ArrayLaws

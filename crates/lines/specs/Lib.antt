@@ -1,0 +1,3 @@
+-- What the contracts of `lines` cite beside model's definitions.
+pub mod Segments
+pub mod Outlines

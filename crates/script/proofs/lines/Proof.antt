@@ -1,0 +1,80 @@
+-- Each line lies in the script, and the next begins after it. The invariant: every buffer keeps its length.
+use mathlib.Core.Path.{_≡_}
+use Prim.Native.Nat.{_-_}
+use lib.ListN.{length}
+use borrow.Author.Needs.{needs}
+use Rattle.script.proofs.lines.Statement.{statement}
+use Rattle.script.proofs.lines.Tie as tie
+
+abbrev Inv-loop : tie.InvT-loop
+Inv-loop script screen₀ stores₀ scratch₀ out₀ session₀ written₀ from₀ screen stores scratch out session written from = (length screen ≡ length screen₀) × (length stores ≡ length stores₀) × (length scratch ≡ length scratch₀) × (length out ≡ length out₀)
+
+abbrev μ-loop : tie.MeasureT-loop
+μ-loop script screen₀ stores₀ scratch₀ out₀ session₀ written₀ from₀ screen stores scratch out session written from = length script - from
+
+begun-requires : tie.Need-begun-requires Inv-loop μ-loop
+begun-requires c κs = search needs
+
+loop-holds : tie.Need-loop-holds Inv-loop μ-loop
+loop-holds c = search needs
+
+line-end-requires : tie.Need-line-end-requires Inv-loop μ-loop
+line-end-requires c κs = search needs
+
+add-next : tie.Need-add-next Inv-loop μ-loop
+add-next c = search needs
+
+sub-one-line : tie.Need-sub-one-line Inv-loop μ-loop
+sub-one-line c = search needs
+
+part-one-line-start : tie.Need-part-one-line-start Inv-loop μ-loop
+part-one-line-start c = search needs
+
+part-one-line-end : tie.Need-part-one-line-end Inv-loop μ-loop
+part-one-line-end c = search needs
+
+one-line-requires : tie.Need-one-line-requires Inv-loop μ-loop
+one-line-requires c κs = search needs
+
+loop-less : tie.Need-loop-less Inv-loop μ-loop
+loop-less c = search needs
+
+loop-again : tie.Need-loop-again Inv-loop μ-loop
+loop-again c = search needs
+
+same-length : tie.Need-same-length Inv-loop μ-loop
+same-length c = search needs
+
+same-length-2 : tie.Need-same-length-2 Inv-loop μ-loop
+same-length-2 c = search needs
+
+same-length-3 : tie.Need-same-length-3 Inv-loop μ-loop
+same-length-3 c = search needs
+
+same-length-4 : tie.Need-same-length-4 Inv-loop μ-loop
+same-length-4 c = search needs
+
+returns : tie.Need-returns Inv-loop μ-loop
+returns c = search needs
+
+pub lines-spec : {M : Type 1} → statement M
+lines-spec =
+    tie.close
+    (tie.spec
+    Inv-loop
+    μ-loop
+    begun-requires
+    loop-holds
+    line-end-requires
+    add-next
+    sub-one-line
+    part-one-line-start
+    part-one-line-end
+    one-line-requires
+    loop-less
+    loop-again
+    same-length
+    same-length-2
+    same-length-3
+    same-length-4
+    returns)
