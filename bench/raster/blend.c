@@ -1,4 +1,4 @@
-/* The same work as crates/raster's blend_colour, written bytewise in C. Its own file, so that gcc optimises it apart from the timing. */
+/* The same work as crates/raster's blend with a colour, written bytewise in C. Its own file, so that gcc optimises it apart from the timing. */
 #include <stddef.h>
 #include <stdint.h>
 

@@ -3,22 +3,17 @@ use mathlib.Core.Path.{_≡_}
 use mathlib.Core.Bool.{Bool, _||_}
 use mathlib.Core.List.{List}
 use Prim.Native.Nat.{ℕ, _+_}
-use native.Mathlib.Numerals.{add-one}
 use Rattle.model.specs.declared.Row.{Row}
 use Rattle.model.specs.Ranges.{anyBelow}
 use Rattle.model.specs.Setup.{rowAt}
+use Rattle.model.proofs.SetupLaws.{anyBelow-more}
 use Rattle.checks.specs.Sizes.{someRow, somePair}
-
--- one turn: the test at i joined to those below i
-anyBelow-more : (f : ℕ → Bool) (i : ℕ) (b t : Bool) → b ≡ f i → t ≡ anyBelow i f → (b || t) ≡ anyBelow (i + 1) f
-unfolding anyBelow
-anyBelow-more f i b t e h = rw (add-one, e, h)
 
 module _ (rows : List Row) (i : ℕ) (b t : Bool) where
   pub someRow-more : (f : Row → Bool) → b ≡ f (rowAt rows i) → t ≡ someRow i f rows → (b || t) ≡ someRow (i + 1) f rows
   unfolding someRow
-  someRow-more f = anyBelow-more (λ k. f (rowAt rows k)) i b t
+  someRow-more f = anyBelow-more (λ k. f (rowAt rows k)) i
 
   pub somePair-more : (f : Row → Row → Bool) → b ≡ someRow i (λ s. f s (rowAt rows i)) rows → t ≡ somePair i f rows → (b || t) ≡ somePair (i + 1) f rows
   unfolding someRow somePair
-  somePair-more f = anyBelow-more (λ j. anyBelow j (λ k. f (rowAt rows k) (rowAt rows j))) i b t
+  somePair-more f = anyBelow-more (λ j. anyBelow j (λ k. f (rowAt rows k) (rowAt rows j))) i

@@ -4,7 +4,6 @@ use mathlib.Core.List.{List}
 use Prim.Native.Nat.{ℕ}
 use Rattle.model.specs.declared.Console.{Console}
 use Rattle.model.specs.declared.Pane.{Pane}
-use Rattle.model.specs.declared.Reply.{Reply}
 use Rattle.model.specs.declared.Reply.the-variants as reply
 use Rattle.model.specs.Runs.{runs}
 use Rattle.model.specs.Calls.{State, run, on, inPart, ownRefusal, onPane, ran, rowOf, recordOf, storeOf, callRefusal, exec}

@@ -15,6 +15,7 @@ pub use calls::put::put;
 pub use calls::run::run;
 pub use calls::set_up::set_up;
 pub use calls::start::start;
+pub use record::fresh;
 
 // What every call answers: the console record after it, and its reply.
 pub struct Answered {

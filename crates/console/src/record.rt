@@ -44,7 +44,7 @@ pub(crate) fn with_record(console: Console, k: usize, pane: Pane) -> Console
 }
 
 // The record of a pane that has done nothing.
-pub(crate) fn fresh() -> Pane
+pub fn fresh() -> Pane
     ensures { λ r. ⌜ r ≡ fresh ⌝ }
 {
     Pane {

@@ -1,17 +1,17 @@
 -- Whole numbers: how large a sum, a negation and a 16-bit coordinate are, and what a signed test says.
-use mathlib.Core.Path.{_≡_, refl, sym, ap, subst, _∙_}
+use mathlib.Core.Path.{_≡_, refl, sym, ap, subst}
 use mathlib.Core.Bool.{Bool, true, false, cond}
 use Prim.Native.Nat.{ℕ, zero, suc, _+_, _-_, _≤_, _<_}
 use native.Mathlib.Nat.{zero-add}
 use native.Mathlib.Omega.{arith}
-use lib.Dec.{T, ltb, leb}
-use lib.IntN.{ℤ, pos, negsuc, negℤ, natAbs, subℕ, _+ℤ_, _-ℤ_}
+use lib.Dec.{T, ltb}
+use lib.IntN.{ℤ, pos, negsuc, negℤ, natAbs, _+ℤ_, _-ℤ_}
 use lib.Signed.{mag, ltZ, nonNeg}
 use borrow.Author.Tests.{lt-ltb, le-ltb, ltb-true, ltb-false, le-leb, lt-leb}
 use mir.Syntax.{w32, w64}
 use mir.Val.{SFits, Fits, toZ}
 use mir.Facts.{toZ-pos}
-use Rattle.model.specs.Coordinates.{coord, signAs, negative, between, index}
+use Rattle.model.specs.Coordinates.{coord, signAs, negative}
 use Rattle.model.proofs.Decisions.{split}
 use Rattle.coordinates.specs.Offsets.{turned, spotOf}
 use Rattle.coordinates.specs.declared.Spot.the-variants.{At, Outside}

@@ -27,7 +27,7 @@ use Rattle.model.proofs.Decisions.{split, holds, either-false, cond-ind, cond-n
 use Rattle.model.proofs.PlaceLaws.{Depth}
 use Rattle.model.proofs.SetupLaws.{any-below}
 use Rattle.coordinates.proofs.SignedLaws.{coord-low, coord-high}
-use Rattle.raster.proofs.SpotLaws.{depth-bounds}
+use Rattle.model.proofs.PlaceLaws.{depth-bounds}
 use Rattle.checks.specs.Admitted.{Placed}
 use Rattle.checks.proofs.SizeLaws.{isDepth-known}
 use Rattle.checks.proofs.BitmapLaws.{ruleBroken-store, bitmap-fits-screen, bitmap-fits-store}

@@ -1,9 +1,8 @@
 -- The rows of a source rectangle: their addresses are small, and a loop over them joins a test at each.
 use mathlib.Core.Path.{_≡_, refl}
-use mathlib.Core.Bool.{Bool, false, _||_}
+use mathlib.Core.Bool.{Bool, false}
 use Prim.Native.Nat.{ℕ, _+_, _*_, _^_, _≤_, _<_}
 use native.Mathlib.Nat.{mul-le-mul-right, mul-le-mul-left}
-use native.Mathlib.Numerals.{add-one}
 use native.Mathlib.Omega.{arith}
 use Rattle.model.specs.declared.Surface.{Surface}
 use Rattle.model.specs.declared.Bitmap.{Bitmap}
@@ -11,7 +10,7 @@ use Rattle.model.specs.declared.Bitmap.the-variants as bitmap
 use Rattle.model.specs.Ranges.{anyBelow}
 use Rattle.model.specs.Bitmaps.{wordOf}
 use Rattle.model.specs.Copies.{Block, sharing}
-use Rattle.raster.proofs.SpotLaws.{depth-bounds}
+use Rattle.model.proofs.PlaceLaws.{depth-bounds}
 use Rattle.draw.specs.Targets.{isPane}
 use Rattle.copies.specs.Moves.{Within, Readable}
 
@@ -33,11 +32,7 @@ module _ {s : Surface} (d : Readable s (2 ^ 32)) where
       let f : wordOf (s .bits) x < s .words = omega (arith, d .right, mul-le-mul-right (s .bits) a, p .0) in
       omega (arith, d .long, mul-le-mul-right (s .words) b, f)
 
--- ## One turn of the loop: the test at i joined to those below i
-
-pub anyBelow-more : (f : ℕ → Bool) (i : ℕ) (b t : Bool) → b ≡ f i → t ≡ anyBelow i f → (b || t) ≡ anyBelow (i + 1) f
-unfolding anyBelow
-anyBelow-more f i b t e h = rw (add-one, e, h)
+-- ## Before the first turn of the loop
 
 pub anyBelow-none : (f : ℕ → Bool) → anyBelow 0 f ≡ false
 unfolding anyBelow

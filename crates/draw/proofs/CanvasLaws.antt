@@ -1,5 +1,5 @@
 -- Laws of dots on a canvas: lists of dots one after the other, what they keep, and what model's plan of a drawing says of them.
-use mathlib.Core.Path.{_≡_, refl, sym, ap, ap₂, _∙_}
+use mathlib.Core.Path.{_≡_, refl, sym, ap, _∙_}
 use mathlib.Core.Bool.{Bool, true, false, cond, not}
 use mathlib.Core.List.{List, [], _∷_, _++_, append-nil, append-assoc}
 use Prim.Native.Nat.{ℕ, zero, suc, _+_, _≤_}
@@ -12,11 +12,11 @@ use Rattle.model.specs.Words.{digit}
 use Rattle.model.specs.declared.Surface.{Surface}
 use Rattle.model.specs.Pixels.{Change, change, changes}
 use Rattle.model.specs.Dots.{Dot, visible, hits, changeOf, keep, changesOf}
-use Rattle.model.proofs.Decisions.{split, cond-ind, cond-true, cond-false}
+use Rattle.model.proofs.Decisions.{cond-ind}
 use Rattle.model.proofs.CallLaws.{change-length}
 use Rattle.model.proofs.DotLaws.{listed-last}
 use Rattle.draw.specs.declared.Target.{Target}
-use Rattle.draw.specs.Canvas.{Canvas, canvas, changedIn, changedUnless, counted, hit, painted, paintedAll}
+use Rattle.draw.specs.Canvas.{Canvas, canvas, changedUnless, counted, hit, painted, paintedAll}
 
 -- ## Lists of dots
 

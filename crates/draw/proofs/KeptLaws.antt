@@ -1,7 +1,7 @@
 -- What dots keep: every byte of the store that is none of the active bitmap's. So an array of the store reads while it is drawn as it did before.
-use mathlib.Core.Path.{_≡_, refl, ap, ap₂, _∙_}
+use mathlib.Core.Path.{_≡_, refl, ap₂, _∙_}
 use mathlib.Core.Logic.{_⊎_, inl, inr, _≢_}
-use mathlib.Core.Bool.{Bool, true, false, cond}
+use mathlib.Core.Bool.{Bool, true, false}
 use mathlib.Core.List.{List, [], _∷_}
 use Prim.Native.Nat.{ℕ, _+_, _*_, _/_, _≤_, _<_}
 use native.Mathlib.Omega.{arith}
@@ -16,7 +16,7 @@ use Rattle.model.proofs.Decisions.{cond-ind}
 use Rattle.model.proofs.PlaceLaws.{Depth, in-rows}
 use Rattle.model.proofs.PixelLaws.{inside-true}
 use Rattle.draw.specs.declared.Target.{Target}
-use Rattle.draw.specs.Canvas.{Canvas, changedUnless, counted, hit, painted, paintedAll, rowsEnd, Clear, Reach}
+use Rattle.draw.specs.Canvas.{Canvas, changedUnless, hit, painted, paintedAll, rowsEnd, Clear, Reach}
 
 -- the surface's columns lie in its rows
 pub record Laid (u : Surface) : Type 0 where

@@ -3,3 +3,4 @@ pub mod CanvasLaws
 pub mod KeptLaws
 pub mod TargetLaws
 pub mod PlanLaws
+pub mod ReachLaws

@@ -1,8 +1,8 @@
 -- What model's plan of a drawing says, dot by dot: its dots painted on the pane's target.
-use mathlib.Core.Path.{_≡_, refl, sym, ap, _∙_}
+use mathlib.Core.Path.{_≡_, refl, sym, _∙_}
 use mathlib.Core.Bool.{Bool, true, false, cond, not}
 use mathlib.Core.List.{List, []}
-use Prim.Native.Nat.{ℕ, _+_}
+use Prim.Native.Nat.{ℕ}
 use native.Mathlib.Nat.{zero-add}
 use native.Mathlib.Omega.{arith}
 use Rattle.model.specs.declared.Geometry.{Geometry}
@@ -12,11 +12,11 @@ use Rattle.model.specs.declared.Bitmap.{Bitmap}
 use Rattle.model.specs.declared.Bitmap.the-variants as bitmap
 use Rattle.model.specs.Bitmaps.{surfaceOf, paneSurface}
 use Rattle.model.specs.Pixels.{Change, changes}
-use Rattle.model.specs.Dots.{Drawing, hits, changesOf}
+use Rattle.model.specs.Dots.{Drawing, hits}
 use Rattle.model.specs.Faults.{noBitmap}
 use Rattle.model.specs.Effects.{draws}
 use Rattle.model.specs.Steps.{onStore, onScreen, madeBy, drewPane, planOf}
-use Rattle.model.specs.Runs.{Finish, carried}
+use Rattle.model.specs.Runs.{carried}
 use Rattle.draw.specs.Canvas.{Canvas, canvas, paintedAll}
 use Rattle.draw.specs.Targets.{isPane, targetOf}
 use Rattle.draw.proofs.CanvasLaws.{changesIf, paintedAll-hits, paintedAll-screen, paintedAll-store}

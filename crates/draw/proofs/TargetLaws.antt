@@ -2,10 +2,10 @@
 use mathlib.Core.Path.{_≡_, refl, sym, ap, _∙_}
 use mathlib.Core.Bool.{Bool, true, false, cond, _&&_}
 use mathlib.Core.List.{List}
-use Prim.Native.Nat.{ℕ, _+_, _≤_, _<_}
+use Prim.Native.Nat.{ℕ, _+_, _≤_}
 use native.Mathlib.Omega.{arith}
 use borrow.Author.Tests.{lt-ltb, le-leb, leb-true}
-use lib.Dec.{ltb, leb}
+use lib.Dec.{leb}
 use lib.IntN.{ℤ, pos, negsuc}
 use lib.ListN.{length}
 use Rattle.model.specs.declared.Surface.{Surface}
@@ -17,13 +17,11 @@ use Rattle.model.specs.Dots.{Dot, dot, something, below, visible}
 use Rattle.model.proofs.Decisions.{split, cond-true, cond-false, both-true, both-of}
 use Rattle.raster.specs.Place.{Drawable}
 use Rattle.coordinates.specs.Offsets.{spotOf}
-use Rattle.coordinates.specs.declared.Spot.{Spot}
 use Rattle.coordinates.specs.declared.Spot.the-variants.{At, Outside}
 use Rattle.draw.specs.declared.Target.{Target}
 use Rattle.draw.specs.Canvas.{Canvas, canvas, changedUnless, counted, hit, painted}
 use Rattle.draw.specs.Targets.{Ready, InClip, changeWith}
 use Rattle.draw.proofs.KeptLaws.{Laid}
-use Rattle.draw.proofs.CanvasLaws.{SameLengths}
 
 -- ## The promise
 

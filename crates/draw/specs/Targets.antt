@@ -54,3 +54,8 @@ targetOf g r p =
       pen = p .pen;
       truth = truthOf (p .pen .op);
     }
+
+-- a target is a bitmap's: the pane's pixels lie in the screen, a store bitmap's where its address says
+pub record Aimed (t : Target) (g : Geometry) (r : Row) (active : Bitmap) : Type 0 where
+  pub pane : (xmax ymax b : ℕ) → active ≡ bitmap.Pane xmax ymax b → t .pane ≡ true
+  pub surface : t .surface ≡ surfaceOf g r active

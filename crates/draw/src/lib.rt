@@ -9,7 +9,6 @@ ghost use Rattle.model.specs.Coordinates.{at, offset, place};
 ghost use Rattle.model.specs.Dots.{dot};
 ghost use Rattle.model.specs.Pixels.{penSource, patternSource};
 ghost use Rattle.model.specs.Words.{bit};
-ghost use Rattle.model.specs.declared.Source.the-variants.{Colour, Copied};
 ghost use Rattle.coordinates.specs.Offsets.{turned};
 ghost use Rattle.draw.specs.Canvas.{canvas, changedUnless, painted};
 ghost use Rattle.draw.specs.Targets.{Ready, InClip, changeWith, isPane, targetOf};
@@ -157,10 +156,10 @@ pub fn pattern_source(pen: Pen, i: usize) -> Source
     pen_source(pen, pen.transparent, on)
 }
 
-// Pixel (x,y) of the bitmap, which lies in the clip, drawn with a colour; nothing in pick mode.
-fn put_colour(screen: &mut [u8], store: &mut [u8], t: Target, x: usize, y: usize, colour: u16)
+// Pixel (x,y) of the bitmap, which lies in the clip, blended with a source; nothing in pick mode.
+fn put(screen: &mut [u8], store: &mut [u8], t: Target, x: usize, y: usize, source: Source)
     requires { ⌜ Ready t (length (now screen)) (length (now store)) × InClip t x y ⌝ }
-    ensures { λ _. ⌜ canvas (now (screen .exit)) (now (store .exit)) 0 ≡ changedUnless (t .picking) (t .pane) (t .surface) (changeWith t (Colour colour) x y) (canvas (now (screen .entry)) (now (store .entry)) 0) ⌝ }
+    ensures { λ _. ⌜ canvas (now (screen .exit)) (now (store .exit)) 0 ≡ changedUnless (t .picking) (t .pane) (t .surface) (changeWith t source x y) (canvas (now (screen .entry)) (now (store .entry)) 0) ⌝ }
 {
     if t.picking {
         return;
@@ -169,27 +168,9 @@ fn put_colour(screen: &mut [u8], store: &mut [u8], t: Target, x: usize, y: usize
     let pen = t.pen;
     let truth = t.truth;
     if t.pane {
-        raster::blend_colour(screen, s, pen, truth, x, y, colour);
+        raster::blend(screen, s, pen, truth, x, y, source);
     } else {
-        raster::blend_colour(store, s, pen, truth, x, y, colour);
-    }
-}
-
-// Pixel (x,y) of the bitmap, which lies in the clip, drawn with a copied value; nothing in pick mode.
-fn put_value(screen: &mut [u8], store: &mut [u8], t: Target, x: usize, y: usize, value: u8)
-    requires { ⌜ Ready t (length (now screen)) (length (now store)) × InClip t x y ⌝ }
-    ensures { λ _. ⌜ canvas (now (screen .exit)) (now (store .exit)) 0 ≡ changedUnless (t .picking) (t .pane) (t .surface) (changeWith t (Copied value) x y) (canvas (now (screen .entry)) (now (store .entry)) 0) ⌝ }
-{
-    if t.picking {
-        return;
-    }
-    let s = t.surface;
-    let pen = t.pen;
-    let truth = t.truth;
-    if t.pane {
-        raster::blend_value(screen, s, pen, truth, x, y, value);
-    } else {
-        raster::blend_value(store, s, pen, truth, x, y, value);
+        raster::blend(store, s, pen, truth, x, y, source);
     }
 }
 
@@ -208,12 +189,8 @@ pub fn plot(
 {
     match source {
         Source::Nothing => hits,
-        Source::Colour(w) => {
-            put_colour(screen, store, t, x, y, w);
-            hits + 1
-        }
-        Source::Copied(v) => {
-            put_value(screen, store, t, x, y, v);
+        _ => {
+            put(screen, store, t, x, y, source);
             hits + 1
         }
     }

@@ -1,6 +1,6 @@
 -- What a command that is free of faults may rely on.
 use mathlib.Core.Path.{_≡_, refl}
-use mathlib.Core.Bool.{true, false, cond}
+use mathlib.Core.Bool.{false, cond}
 use mathlib.Core.List.{List, [], _∷_}
 use Prim.Native.Nat.{ℕ, _*_, _≤_, _<_}
 use native.Mathlib.Omega.{arith}
@@ -9,8 +9,6 @@ use Rattle.model.specs.declared.Row.{Row}
 use Rattle.model.specs.declared.Pane.{Pane}
 use Rattle.model.specs.declared.Pen.{Pen}
 use Rattle.model.specs.declared.Point.{Point}
-use Rattle.model.specs.declared.Bitmap.{Bitmap}
-use Rattle.model.specs.declared.Bitmap.the-variants as bitmap
 use Rattle.model.specs.declared.Command.the-variants as command
 use Rattle.model.specs.Numbers.{faultData}
 use Rattle.model.specs.Lines.{Move, Span, polyline, scanLines}
@@ -18,8 +16,8 @@ use Rattle.model.specs.Faults.{noBitmap, arrayBad, drawFault, faultOf}
 use Rattle.model.proofs.Decisions.{cond-none}
 use Rattle.checks.proofs.SizeLaws.{isDepth-known}
 use Rattle.draw.specs.Canvas.{Reach}
-use Rattle.draw.specs.Targets.{isPane, targetOf}
-use Rattle.lines.proofs.ReachLaws.{arrayBad-reach}
+use Rattle.draw.specs.Targets.{targetOf}
+use Rattle.draw.proofs.ReachLaws.{arrayBad-bytes, bytesBad-reach, aimed-of}
 use Rattle.drawing.specs.Stepping.{Sound}
 
 -- what the target of a pane is made from
@@ -58,14 +56,10 @@ module _ (g : Geometry) (r : Row) (p : Pane) (store : List ℕ) (a n : ℕ) wher
       let h = drawFault-none p (cond (arrayBad r (p .bitmap) a (6 * n)) faultData 0) e in
       (h .0, cond-none (arrayBad r (p .bitmap) a (6 * n)) 24 0 (h .1) .0)
 
-is-pane : (b : Bitmap) (xmax ymax bits : ℕ) → b ≡ bitmap.Pane xmax ymax bits → isPane b ≡ true
-is-pane b xmax ymax bits e = rw e
-
 -- an array without a fault is in reach while the pane's target is drawn on
 pub array-reach : (g : Geometry) (r : Row) (p : Pane) (store a size : ℕ) → store ≡ r .len → arrayBad r (p .bitmap) a size ≡ false
     → Reach (targetOf g r p) store a size
-unfolding targetOf
-array-reach g r p store a size l e = arrayBad-reach g r (targetOf g r p) (p .bitmap) refl (is-pane (p .bitmap)) store a size l e
+array-reach g r p store a size l e = rw l (bytesBad-reach (p .bitmap) (aimed-of g r p) a size (arrayBad-bytes r (p .bitmap) a size e))
 
 -- ## No trap but CHAR's
 

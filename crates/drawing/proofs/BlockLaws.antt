@@ -20,7 +20,7 @@ use Rattle.model.specs.Faults.{noBitmap, block, sourceBitmap, faultOf}
 use Rattle.model.specs.Effects.{draws, effectOf}
 use Rattle.model.specs.Steps.{drewPane}
 use Rattle.model.proofs.Decisions.{cond-none}
-use Rattle.raster.proofs.SpotLaws.{depth-bounds}
+use Rattle.model.proofs.PlaceLaws.{depth-bounds}
 use Rattle.checks.specs.Admitted.{Placed}
 use Rattle.draw.specs.declared.Target.{Target}
 use Rattle.draw.specs.Canvas.{canvas, paintedAll}

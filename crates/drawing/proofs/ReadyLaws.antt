@@ -1,14 +1,13 @@
 -- A sound pane with an active bitmap is ready to be drawn on, and a drawing's plan is its dots painted.
 use mathlib.Core.Path.{_≡_, refl, sym, ap, _∙_}
-use mathlib.Core.Bool.{Bool, true, false, cond}
+use mathlib.Core.Bool.{false, cond}
 use mathlib.Core.List.{List}
-use Prim.Native.Nat.{ℕ, _+_, _*_, _≤_, _<_}
+use Prim.Native.Nat.{ℕ, _+_, _≤_}
 use native.Mathlib.Omega.{arith}
 use lib.ListN.{length, replicate, length-replicate}
 use Rattle.model.specs.declared.Geometry.{Geometry}
 use Rattle.model.specs.declared.Row.{Row}
 use Rattle.model.specs.declared.Pane.{Pane}
-use Rattle.model.specs.declared.Point.{Point}
 use Rattle.model.specs.declared.Bitmap.{Bitmap}
 use Rattle.model.specs.declared.Bitmap.the-variants as bitmap
 use Rattle.model.specs.declared.Surface.{Surface}
@@ -21,12 +20,11 @@ use Rattle.model.specs.Runs.{carried}
 use Rattle.model.specs.Steps.{drewPane, planOf}
 use Rattle.model.proofs.PixelLaws.{Fits}
 use Rattle.checks.specs.Admitted.{Placed}
-use Rattle.checks.proofs.BitmapLaws.{Within, ruleBroken-store, bitmap-fits-screen, bitmap-fits-store, clip-within}
-use Rattle.draw.specs.declared.Target.{Target}
-use Rattle.draw.specs.Canvas.{Canvas, canvas, paintedAll, rowsEnd}
+use Rattle.checks.proofs.BitmapLaws.{ruleBroken-store, bitmap-fits-screen, bitmap-fits-store, clip-within}
+use Rattle.draw.specs.Canvas.{Canvas, canvas, paintedAll}
 use Rattle.draw.specs.Targets.{Ready, isPane, targetOf}
 use Rattle.draw.proofs.PlanLaws.{canvasOf, planned}
-use Rattle.drawing.specs.Stepping.{Sound, Left, left, leftOf, done}
+use Rattle.drawing.specs.Stepping.{Sound, left, leftOf, done}
 
 -- a surface of so many columns lies in its buffer
 record Room (s : Surface) (size : ℕ) : Type 0 where

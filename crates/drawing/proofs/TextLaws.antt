@@ -15,12 +15,12 @@ use Rattle.model.specs.Glyphs.{descriptor, string}
 use Rattle.model.specs.Faults.{noBitmap, noFont, stringBad, descriptorsBad, faultOf}
 use Rattle.model.specs.Effects.{effectOf}
 use Rattle.model.specs.Steps.{drewPane}
-use Rattle.model.proofs.Decisions.{cond-none, either-false}
+use Rattle.model.proofs.Decisions.{cond-none}
 use Rattle.draw.specs.declared.Target.{Target}
 use Rattle.draw.specs.Canvas.{canvas}
-use Rattle.draw.specs.Targets.{isPane, targetOf}
+use Rattle.draw.specs.Targets.{targetOf}
 use Rattle.glyphs.specs.declared.text.Written.{Written}
-use Rattle.glyphs.specs.Reading.{Aimed}
+use Rattle.draw.proofs.ReachLaws.{aimed-of}
 use Rattle.glyphs.specs.Strings.{Writable, Outcome, outcome, carriedOut}
 use Rattle.glyphs.proofs.CheckLaws.{char-legible}
 use Rattle.drawing.specs.Stepping.{Sound, left, done}
@@ -42,16 +42,12 @@ module _ (g : Geometry) (r : Row) (p : Pane) (store : List ℕ) (a n : ℕ) (tra
       let bad = stringBad r (p .bitmap) store (p .text .font) a n || descriptorsBad r (p .bitmap) store (p .text .font) a n in
       cond-none bad 24 0 (font .1) .0
 
-  aimed : Aimed (targetOf g r p) g r (p .bitmap)
-  unfolding targetOf
-  aimed = record { pane = λ xmax ymax b e. ap isPane e; surface = refl }
-
   pub char-writable : (m : ℕ) → Sound g r p m (length store) → faultOf g r p store (command.Char a n transparent) ≡ 0 → Writable (targetOf g r p) m store (p .text) a n
   char-writable m s e =
       record {
         target = ready-of g r p m (length store) s (char-active e);
         oriented = record { path = omega (arith, s .good .text .path); rotation = omega (arith, s .good .text .rotation) };
-        legible = char-legible r (p .bitmap) store (p .text .font) a n aimed (s .placed .part) (char-readable e);
+        legible = char-legible r (p .bitmap) store (p .text .font) a n (aimed-of g r p) (s .placed .part) (char-readable e);
       }
 
   -- ## What it leaves

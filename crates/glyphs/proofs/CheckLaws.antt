@@ -1,11 +1,9 @@
 -- What CHAR's check says of each character: its part of the string, its offset word and its descriptor. A string that passes can be
 -- read while it is drawn.
-use mathlib.Core.Path.{_≡_, subst}
-use mathlib.Core.Bool.{Bool, false, _||_}
+use mathlib.Core.Path.{_≡_}
+use mathlib.Core.Bool.{false, _||_}
 use mathlib.Core.List.{List}
-use Prim.Native.Nat.{ℕ, zero, suc, _+_, _*_, _<_}
-use native.Mathlib.Decide.{decLt}
-use native.Mathlib.Numerals.{add-one}
+use Prim.Native.Nat.{ℕ, _+_, _*_, _<_}
 use native.Mathlib.Omega.{arith}
 use lib.ListN.{length, getD}
 use Rattle.model.specs.declared.Geometry.{Geometry}
@@ -13,32 +11,16 @@ use Rattle.model.specs.declared.Row.{Row}
 use Rattle.model.specs.declared.Bitmap.{Bitmap}
 use Rattle.model.specs.declared.Font.{Font}
 use Rattle.model.specs.declared.Font.the-variants.{Word, Byte}
-use Rattle.model.specs.Ranges.{anyBelow}
 use Rattle.model.specs.Words.{wordAt}
 use Rattle.model.specs.Glyphs.{offsetWord, descriptor, heightOf}
 use Rattle.model.specs.Faults.{bytesBad, arrayBad, stringBad, descriptorsBad}
+use Rattle.model.proofs.SetupLaws.{any-below}
 use Rattle.model.proofs.Decisions.{either-false}
 use Rattle.draw.specs.declared.Target.{Target}
 use Rattle.draw.specs.Canvas.{Reach}
-use Rattle.glyphs.specs.Reading.{Spelt, Aimed, Legible}
-use Rattle.glyphs.proofs.DataLaws.{arrayBad-bytes, bytesBad-inside, bytesBad-reach, reach-part}
-
--- ## Tests below a bound
-
--- one turn of a loop: the test at k joined to those below k
-pub anyBelow-more : (f : ℕ → Bool) (k : ℕ) {b t : Bool} → b ≡ f k → t ≡ anyBelow k f → (b || t) ≡ anyBelow (k + 1) f
-unfolding anyBelow
-anyBelow-more f k e h = rw (add-one, e, h)
-
-anyBelow-false : (f : ℕ → Bool) (n k : ℕ) → anyBelow n f ≡ false → k < n → f k ≡ false
-unfolding anyBelow
-anyBelow-false f zero k h l = absurd (let e : ⊥ = omega arith in e)
-anyBelow-false f (suc n) k h l =
-    let b = either-false (f n) (anyBelow n f) h in
-    elim (decLt k n) [
-      | yes g ↦ anyBelow-false f n k (b .1) g
-      | no g ↦ let e : n ≡ k = omega arith in subst (λ (m : ℕ). f m ≡ false) e (b .0)
-    ]
+use Rattle.glyphs.specs.Reading.{Spelt, Legible}
+use Rattle.draw.specs.Targets.{Aimed}
+use Rattle.draw.proofs.ReachLaws.{arrayBad-bytes, bytesBad-inside, bytesBad-reach, reach-part}
 
 -- ## The parts of the check
 
@@ -56,14 +38,14 @@ module _ (r : Row) (active : Bitmap) (store : List ℕ) (f : Font) (string n : �
   unfolding stringBad
   offset-bytes h base e k l =
       arrayBad-bytes r active _ 2
-      (anyBelow-false (λ k. arrayBad r active (offsetWord base (getD store (string + k) 0)) 2) n k (either-false (bytesBad r active string n) _ (rw e at h) .1) l)
+      (any-below n (λ k. arrayBad r active (offsetWord base (getD store (string + k) 0)) 2) k (either-false (bytesBad r active string n) _ (rw e at h) .1) l)
 
   descriptor-bytes : descriptorsBad r active store f string n ≡ false → (k : ℕ) → k < n
       → bytesBad r active (descriptor f store string k) (2 + 2 * heightOf (wordAt store (descriptor f store string k))) ≡ false
   unfolding descriptorsBad
   descriptor-bytes h k l =
       arrayBad-bytes r active _ _
-      (anyBelow-false (λ k. arrayBad r active (descriptor f store string k) (2 + 2 * heightOf (wordAt store (descriptor f store string k)))) n k h l)
+      (any-below n (λ k. arrayBad r active (descriptor f store string k) (2 + 2 * heightOf (wordAt store (descriptor f store string k)))) k h l)
 
   -- ## The selectors can be read
 

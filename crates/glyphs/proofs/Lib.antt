@@ -1,6 +1,5 @@
 -- Laws that belong to no one function.
 pub mod FontLaws
-pub mod DataLaws
 pub mod CheckLaws
 pub mod PathLaws
 pub mod CellLaws

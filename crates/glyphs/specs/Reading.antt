@@ -1,18 +1,15 @@
 -- What of the store can be read: a character's selector, and a string with its descriptors.
 use mathlib.Core.Path.{_≡_}
-use mathlib.Core.Bool.{Bool, true, false, _||_}
+use mathlib.Core.Bool.{Bool, false, _||_}
 use mathlib.Core.List.{List}
 use Prim.Native.Nat.{ℕ, _+_, _*_, _<_}
 use lib.ListN.{length, getD}
-use Rattle.model.specs.declared.Geometry.{Geometry}
 use Rattle.model.specs.declared.Row.{Row}
 use Rattle.model.specs.declared.Bitmap.{Bitmap}
-use Rattle.model.specs.declared.Bitmap.the-variants.{Pane}
 use Rattle.model.specs.declared.Font.{Font}
 use Rattle.model.specs.declared.Font.the-variants.{Word, Byte}
 use Rattle.model.specs.Words.{wordAt}
 use Rattle.model.specs.Ranges.{anyBelow}
-use Rattle.model.specs.Bitmaps.{surfaceOf}
 use Rattle.model.specs.Setup.{fontBad}
 use Rattle.model.specs.Glyphs.{offsetWord, descriptor, heightOf}
 use Rattle.model.specs.Faults.{bytesBad, arrayBad}
@@ -49,8 +46,3 @@ pub record Legible (t : Target) (f : Font) (store : List ℕ) (string count : �
   pub code : (base k : ℕ) → f ≡ Byte base → k < count → Reach t (length store) (string + k) 1
   pub offset : (base k : ℕ) → f ≡ Byte base → k < count → Reach t (length store) (offsetWord base (getD store (string + k) 0)) 2
   pub glyph : (k : ℕ) → k < count → Reach t (length store) (descriptor f store string k) (2 + 2 * heightOf (wordAt store (descriptor f store string k)))
-
--- a target is the active bitmap's: the pane's pixels lie in the screen, a store bitmap's where its address says
-pub record Aimed (t : Target) (g : Geometry) (r : Row) (active : Bitmap) : Type 0 where
-  pub pane : (xmax ymax b : ℕ) → active ≡ Pane xmax ymax b → t .pane ≡ true
-  pub surface : t .surface ≡ surfaceOf g r active

@@ -3,7 +3,6 @@ use mathlib.Core.Path.{_≡_, refl, sym, ap, _∙_}
 use mathlib.Core.List.{List}
 use Prim.Native.Nat.{ℕ}
 use borrow.Author.Tests.{eq-eqb, ne-eqb}
-use lib.Dec.{eqb}
 use Rattle.model.specs.declared.Geometry.{Geometry}
 use Rattle.model.specs.declared.Row.{Row}
 use Rattle.model.specs.declared.Pane.{Pane}
@@ -18,7 +17,7 @@ use Rattle.model.specs.Record.{faulted}
 use Rattle.model.specs.Runs.{carried, stepped}
 use Rattle.model.specs.Steps.{Plan, judged, obey, step}
 use Rattle.model.proofs.Decisions.{cond-true, cond-false}
-use Rattle.drawing.specs.Stepping.{Left, left, leftOf, done}
+use Rattle.drawing.specs.Stepping.{left, leftOf, done}
 use Rattle.gp.specs.Obeying.{obeyed, stoppedOf}
 
 module _ (g : Geometry) (r : Row) (p : Pane) (next : ℕ) (c : Command) (screen store : List ℕ) where

@@ -1,8 +1,7 @@
 -- What a run's loop carries: what is left to run gives the same end, and the pane stays sound.
-use mathlib.Core.Path.{_≡_, refl, sym, ap, _∙_}
-use mathlib.Core.Bool.{true, false}
+use mathlib.Core.Path.{_≡_, sym, ap, _∙_}
 use mathlib.Core.List.{List}
-use Prim.Native.Nat.{ℕ, zero, suc, _+_, _-_, _≤_, _<_}
+use Prim.Native.Nat.{ℕ, suc, _+_, _-_, _≤_, _<_}
 use native.Mathlib.Nat.{zero-add, add-assoc}
 use native.Mathlib.Omega.{arith}
 use borrow.Author.Tests.{eq-eqb, ne-eqb}
@@ -22,7 +21,6 @@ use Rattle.model.specs.Steps.{Plan, planOf, judged, obey, step}
 use Rattle.model.specs.Runs.{Finish, stepped, follow, runs}
 use Rattle.model.proofs.Decisions.{cond-true, cond-ind}
 use Rattle.model.proofs.RunLaws.{runs-idle}
-use Rattle.checks.specs.Good.{Good}
 use Rattle.drawing.specs.Stepping.{Sound, Left, left, leftOf}
 use Rattle.gp.proofs.KeepLaws.{step-good}
 

@@ -2,5 +2,4 @@
 pub mod PaintLaws
 pub mod SegmentLaws
 pub mod RectLaws
-pub mod ReachLaws
 pub mod ArrayLaws

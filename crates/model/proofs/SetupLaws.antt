@@ -7,6 +7,7 @@ use Prim.Native.Nat.{ℕ, zero, suc, _+_, _*_, _%_, _≤_, _<_}
 use native.Mathlib.Omega.{arith}
 use native.Mathlib.Decide.{decLt, ℕ-discrete}
 use native.Mathlib.Nat.{not-suc-le-zero}
+use native.Mathlib.Numerals.{add-one}
 use lib.Dec.{eqb, ltb}
 use Rattle.model.specs.declared.Geometry.{Geometry}
 use Rattle.model.specs.declared.Row.{Row}
@@ -17,6 +18,12 @@ use Rattle.model.proofs.PlaceLaws.{Depth}
 use borrow.Author.Tests.{ltb-false, lt-ltb, eqb-true, not-false}
 use Rattle.model.proofs.Decisions.{both-of, either-false, either-true, cond-none, holds}
 
+-- one more: the test at n joined to those below n
+pub anyBelow-more : (f : ℕ → Bool) (n : ℕ) {b t : Bool} → b ≡ f n → t ≡ anyBelow n f → (b || t) ≡ anyBelow (n + 1) f
+unfolding anyBelow
+anyBelow-more f n e h = rw (add-one, e, h)
+
+-- where no test holds, none of them does
 pub any-below : (n : ℕ) (f : ℕ → Bool) (k : ℕ) → anyBelow n f ≡ false → k < n → f k ≡ false
 unfolding anyBelow
 any-below zero f k e h = absurd (not-suc-le-zero h)
@@ -29,8 +36,8 @@ any-below (suc n) f k e h = go (ℕ-discrete k n) (λ l. any-below n f k (either
 any-pair : (n : ℕ) (f : ℕ → ℕ → Bool) (i j : ℕ) → anyBelow n (λ j. anyBelow j (λ i. f i j)) ≡ false → i < j → j < n → f i j ≡ false
 any-pair n f i j e l h = any-below j (λ i. f i j) i (any-below n (λ j. anyBelow j (λ i. f i j)) j e h) l
 
-depth-of : (b : ℕ) → not (isDepth b) ≡ false → Depth b
-depth-of b e = go1 (either-true _ _ (not-false _ e))
+pub depth-of : (b : ℕ) → isDepth b ≡ true → Depth b
+depth-of b e = go1 (either-true _ _ e)
   where
     one : (n m : ℕ) → n * m ≡ 8 → eqb b n ≡ true → Depth b
     one n m h q = record { e = m; fills = subst (λ (z : ℕ). z * m ≡ 8) (sym (eqb-true b n q)) h }
@@ -93,7 +100,7 @@ geometry-say g n e =
     let a = either-false (outOf 1 4096 (g .width)) (outOf 1 4096 (g .height) || (not (isDepth (g .depth)) || outOf 1 8 n)) e in
     let b = either-false (outOf 1 4096 (g .height)) (not (isDepth (g .depth)) || outOf 1 8 n) (a .1) in
     let c = either-false (not (isDepth (g .depth))) (outOf 1 8 n) (b .1) in
-    (depth-of (g .depth) (c .0), ltb-false 8 n (either-false (ltb n 1) (ltb 8 n) (c .1) .1))
+    (depth-of (g .depth) (not-false _ (c .0)), ltb-false 8 n (either-false (ltb n 1) (ltb 8 n) (c .1) .1))
 
 rectangle-say : (g : Geometry) (r : Row) → rectangleBad g r ≡ false → (r .left + r .width ≤ g .width) × (r .top + r .height ≤ g .height)
 unfolding rectangleBad

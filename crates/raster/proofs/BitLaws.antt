@@ -40,6 +40,12 @@ num-lt (suc n) f = omega (arith, num-lt n (λ i. f (suc i)), digit-lt (f 0), pow
 pub num-self : (n : ℕ) {x : ℕ} → x < 2 ^ n → num n (bit x) ≡ x
 num-self n {x} h = num-bit n x ∙ mod-eq-of-lt h
 
+-- 0 has no bits
+pub bit-zero : (i : ℕ) → bit 0 i ≡ false
+unfolding bit
+bit-zero zero = refl
+bit-zero (suc i) = bit-zero i
+
 -- ## Shifts
 
 pub bit-shr : (x t i : ℕ) → bit (x / 2 ^ t) i ≡ bit x (t + i)

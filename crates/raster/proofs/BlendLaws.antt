@@ -27,7 +27,7 @@ use Rattle.raster.specs.Place.{Placed, Lies, Drawable}
 use Rattle.raster.specs.Pixels.{blending, overlaid}
 use Rattle.raster.proofs.BitLaws.{bit-mod, bit-shl, field-bit}
 use Rattle.raster.proofs.ByteLaws.{chosen-bit}
-use Rattle.raster.proofs.SpotLaws.{depth-bounds}
+use Rattle.model.proofs.PlaceLaws.{depth-bounds}
 use Rattle.raster.proofs.ChangeLaws.{replaced, updated, byte-fits, change-in}
 
 -- ## One byte
@@ -66,18 +66,18 @@ overlaid-blend old p b pen source t byte e h = num-cong 8 _ _ each ∙ sym (blen
 -- ## A source byte
 
 -- the half of a colour word that lies over the pixel's byte
-pub colour-bits : (p : Spot) (b colour : ℕ) {byte : ℕ} → p .shift + b ≤ 8 → byte ≡ field colour (8 * p .half) 8
-    → (i : ℕ) → p .shift ≤ i → i < p .shift + b → bit byte i ≡ sourceBit (Colour colour) (8 * p .half + p .shift) (i - p .shift)
-colour-bits p b colour f e i h l =
+pub colour-bits : (p : Spot) (colour i : ℕ) {byte : ℕ} → byte ≡ field colour (8 * p .half) 8
+    → p .shift ≤ i → i < 8 → bit byte i ≡ sourceBit (Colour colour) (8 * p .half + p .shift) (i - p .shift)
+colour-bits p colour i e h l =
     let k : 8 * p .half + i ≡ 8 * p .half + p .shift + (i - p .shift) = omega arith in
-    ap (λ (z : ℕ). bit z i) e ∙ field-bit colour (8 * p .half) 8 i (omega arith) ∙ ap (bit colour) k
+    ap (λ (z : ℕ). bit z i) e ∙ field-bit colour (8 * p .half) 8 i l ∙ ap (bit colour) k
 
 -- a copied value shifted to the pixel's bits
-pub value-bits : (p : Spot) (b value : ℕ) → p .shift + b ≤ 8
-    → (i : ℕ) → p .shift ≤ i → i < p .shift + b → bit (value * 2 ^ p .shift % 2 ^ 8) i ≡ sourceBit (Copied value) (8 * p .half + p .shift) (i - p .shift)
-value-bits p b value f i h l =
+pub value-bits : (p : Spot) (value i : ℕ)
+    → p .shift ≤ i → i < 8 → bit (value * 2 ^ p .shift % 2 ^ 8) i ≡ sourceBit (Copied value) (8 * p .half + p .shift) (i - p .shift)
+value-bits p value i h l =
     let k : i ≡ p .shift + (i - p .shift) = omega arith in
-    bit-mod 8 (value * 2 ^ p .shift) i (omega arith) ∙ ap (bit (value * 2 ^ p .shift)) k ∙ bit-shl value (p .shift) (i - p .shift)
+    bit-mod 8 (value * 2 ^ p .shift) i l ∙ ap (bit (value * 2 ^ p .shift)) k ∙ bit-shl value (p .shift) (i - p .shift)
 
 -- ## A pixel in its buffer
 
@@ -115,9 +115,9 @@ module _ (s : Surface) (buffer : List ℕ) (x y : ℕ) (d : Drawable s buffer x 
         ∙ ap₂ (λ (a k : ℕ). updated a (replaced k (s .bits) new) buffer) at-is shift-is
 
     pub blending-at : (pen : Pen) (source : Source) (t : Truth) (byte : ℕ) → t ≡ truthOf (pen .op)
-        → ((i : ℕ) → p .shift ≤ i → i < p .shift + s .bits → bit byte i ≡ sourceBit source (8 * p .half + p .shift) (i - p .shift))
+        → ((i : ℕ) → p .shift ≤ i → i < 8 → bit byte i ≡ sourceBit source (8 * p .half + p .shift) (i - p .shift))
         → set buffer (p .at) (overlaid (getD buffer (p .at) 0) p (s .bits) (pen .mask) t byte) ≡ change s (blending s pen source x y) buffer
     blending-at pen source t byte e h =
-        ap (set buffer (p .at)) (overlaid-blend (getD buffer (p .at) 0) p (s .bits) pen source t byte e h)
+        ap (set buffer (p .at)) (overlaid-blend (getD buffer (p .at) 0) p (s .bits) pen source t byte e (λ i a b. h i a (omega (arith, q .inside))))
         ∙ ap (λ (k : ℕ). updated (p .at) (replaced (p .shift) (s .bits) (blend (s .bits) k pen source)) buffer) (q .word)
         ∙ sym (change-at (blend (s .bits) (placeShift s x) pen source))

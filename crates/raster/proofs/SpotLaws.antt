@@ -1,35 +1,15 @@
 -- Where a pixel lies, as the code works it out: column c begins at bit z = c × b of its row, counted from a word's high end, so it lies
 -- in byte z / 8 with the lowest bit flipped (words are low byte first), b bits above the z mod 8 that follow it. Assumes nothing.
-use mathlib.Core.Path.{_≡_, refl, ap, ap₂, _∙_}
-use Prim.Native.Nat.{ℕ, zero, suc, _+_, _-_, _*_, _/_, _%_, _≤_, _<_}
+use mathlib.Core.Path.{_≡_, refl, ap₂, _∙_}
+use Prim.Native.Nat.{ℕ, zero, suc, _+_, _-_, _*_, _/_, _%_, _<_}
 use native.Mathlib.Omega.{arith}
-use native.Mathlib.Nat.{mod-lt, mul-comm, mul-le-mul-right, mul-le-mul-left, div-add-mod'}
+use native.Mathlib.Nat.{mul-comm}
 use lib.Bits.{bitXor, differ, xor-step, xor-zero-r}
 use Rattle.model.specs.Bitmaps.{gridBit, placeBit, placeShift}
 use Rattle.model.specs.declared.Surface.{Surface}
-use Rattle.model.proofs.PlaceLaws.{Depth}
+use Rattle.model.proofs.PlaceLaws.{Depth, column-in-byte}
 use Rattle.raster.specs.declared.place.Spot.{Spot}
 use Rattle.raster.specs.Place.{Lies}
-
--- ## Depths
-
-depth-pos : (b e : ℕ) → b * e ≡ 8 → (0 < b) × (0 < e)
-depth-pos zero e h = omega arith
-depth-pos (suc b) zero h = omega arith
-depth-pos (suc b) (suc e) h = omega arith
-
-pub depth-bounds : {b : ℕ} → Depth b → (0 < b) × (b ≤ 8)
-depth-bounds {b} d =
-    let p = depth-pos b (d .e) (d .fills) in
-    (p .0, omega (arith, d .fills, mul-le-mul-left b (p .1)))
-
--- the bits before a column in its byte leave room for the pixel
-pub column-in-byte : {b : ℕ} → Depth b → (c : ℕ) → c * b % 8 + b ≤ 8
-column-in-byte {b} d c =
-    let p = depth-pos b (d .e) (d .fills) in
-    let v : c * b ≡ c / d .e * 8 + c % d .e * b = omega (arith, ap (λ (z : ℕ). z * b) (div-add-mod' c (d .e)), ap (λ (z : ℕ). c / d .e * z) (d .fills)) in
-    let f : c % d .e * b + b ≤ 8 = omega (arith, d .fills, mul-le-mul-right b (mod-lt c (p .1))) in
-    omega arith
 
 -- ## The lowest bit flipped
 

@@ -6,8 +6,7 @@ pub mod pixels; // pixels.rt: one pixel read, one pixel blended
 
 pub use operations::Truth;
 pub use operations::truth_of;
-pub use pixels::blend_colour;
-pub use pixels::blend_value;
+pub use pixels::blend;
 pub use pixels::pixel;
 pub use place::Spot;
 pub use place::spot_of;

@@ -8,12 +8,13 @@ use crate::operations::operate;
 use crate::place::Spot;
 use crate::place::spot_of;
 use model::Pen;
+use model::Source;
 use model::Surface;
 ghost use mathlib.Core.Path.{_≡_};
-ghost use Prim.Native.Nat.{_+_, _<_, _≤_};
+ghost use Prim.Native.Nat.{ℕ, _+_, _-_, _*_, _<_, _≤_};
+ghost use Rattle.model.specs.Words.{bit};
 ghost use Rattle.model.specs.Bitmaps.{pixels};
-ghost use Rattle.model.specs.Pixels.{change};
-ghost use Rattle.model.specs.declared.Source.the-variants.{Colour, Copied};
+ghost use Rattle.model.specs.Pixels.{sourceBit, change};
 ghost use Rattle.raster.specs.Operations.{truthOf};
 ghost use Rattle.raster.specs.Place.{Drawable};
 ghost use Rattle.raster.specs.Pixels.{overlaid, blending};
@@ -38,41 +39,35 @@ fn blended(old: u8, place: Spot, bits: usize, mask: u16, truth: Truth, source: u
     mux(under, old, operate(truth, source, old))
 }
 
-// Pixel (x,y) blended with a colour word, which is used at the bits where the pixel lies in its word. The caller looks the operation's
-// truth table up, once for many pixels. No other bit of the buffer changes.
-pub fn blend_colour(
-    buffer: &mut [u8],
-    s: Surface,
-    pen: Pen,
-    truth: Truth,
-    x: usize,
-    y: usize,
-    colour: u16,
-)
-    requires { ⌜ Drawable s (now buffer) x y × (truth ≡ truthOf (pen .op)) ⌝ }
-    ensures { λ r. ⌜ now (buffer .exit) ≡ change s (blending s pen (Colour colour) x y) (now (buffer .entry)) ⌝ }
+// The byte that has, over a pixel's bits, those of what the pixel is drawn with: the half of a colour word that lies over the pixel's byte,
+// or a copied value moved to the pixel's bits.
+fn source_byte(source: Source, place: Spot) -> u8
+    requires { ⌜ (place .shift < 8) × (place .half < 2) ⌝ }
+    ensures { λ r. ⌜ ((i : ℕ) → place .shift ≤ i → i < 8 → bit r i ≡ sourceBit source (8 * place .half + place .shift) (i - place .shift)) ⌝ }
 {
-    let place = spot_of(s, x, y);
-    let at = place.at;
-    let source = half_of(colour, place.half);
-    buffer[at] = blended(buffer[at], place, s.bits, pen.mask, truth, source);
+    match source {
+        Source::Nothing => 0,
+        Source::Colour(word) => half_of(word, place.half),
+        Source::Copied(value) => value << place.shift,
+    }
 }
 
-// The same with a value that was copied from another pixel.
-pub fn blend_value(
+// Pixel (x,y) blended with a source. The caller looks the operation's truth table up, once for many pixels. No other bit of the
+// buffer changes.
+pub fn blend(
     buffer: &mut [u8],
     s: Surface,
     pen: Pen,
     truth: Truth,
     x: usize,
     y: usize,
-    value: u8,
+    source: Source,
 )
     requires { ⌜ Drawable s (now buffer) x y × (truth ≡ truthOf (pen .op)) ⌝ }
-    ensures { λ r. ⌜ now (buffer .exit) ≡ change s (blending s pen (Copied value) x y) (now (buffer .entry)) ⌝ }
+    ensures { λ r. ⌜ now (buffer .exit) ≡ change s (blending s pen source x y) (now (buffer .entry)) ⌝ }
 {
     let place = spot_of(s, x, y);
     let at = place.at;
-    let source = value << place.shift;
-    buffer[at] = blended(buffer[at], place, s.bits, pen.mask, truth, source);
+    let byte = source_byte(source, place);
+    buffer[at] = blended(buffer[at], place, s.bits, pen.mask, truth, byte);
 }

@@ -1,5 +1,6 @@
 // Many blends for the measurement in bench/raster, which calls this from C. No program links it.
 use model::Pen;
+use model::Source;
 use model::Surface;
 ghost use mathlib.Core.Path.{_≡_};
 ghost use Prim.Native.Nat.{_<_};
@@ -38,7 +39,15 @@ pub extern "C" fn rasterbench_paint(
     let truth = raster::truth_of(op);
     let mut i: usize = 0;
     while i < turns {
-        raster::blend_colour(buffer, s, pen, truth, i % 128, i / 128 % 64, colour);
+        raster::blend(
+            buffer,
+            s,
+            pen,
+            truth,
+            i % 128,
+            i / 128 % 64,
+            Source::Colour(colour),
+        );
         i += 1;
     }
 }

@@ -1,15 +1,14 @@
 -- `coordinates::magnitude` meets its contract: the offset is widened and then negated, so that -32768 gives 32768.
-use mathlib.Core.Path.{_≡_, refl, sym, ap, subst, _∙_}
+use mathlib.Core.Path.{_≡_, ap}
 use mathlib.Core.Bool.{true, false}
-use Prim.Native.Nat.{ℕ, _≤_, _<_}
+use Prim.Native.Nat.{_<_}
 use native.Mathlib.Omega.{arith}
 use borrow.Author.Needs.{needs}
-use lib.IntN.{ℤ, pos, natAbs, _-ℤ_}
+use lib.IntN.{pos, natAbs, _-ℤ_}
 use lib.Signed.{ltZ, mag}
-use mir.Syntax.{Width, w32, w64}
-use mir.Val.{SFits, Fits, toZ, ofZ}
+use mir.Syntax.{Width, w32}
+use mir.Val.{SFits, toZ, ofZ}
 use mir.Facts.{toZ-ofZ}
-use Rattle.model.specs.Coordinates.{coord}
 use Rattle.coordinates.proofs.SignedLaws.{mag-coord, negated, natAbs-mag, cast-up}
 use Rattle.coordinates.proofs.magnitude.Statement.{statement}
 use Rattle.coordinates.proofs.magnitude.Tie as tie

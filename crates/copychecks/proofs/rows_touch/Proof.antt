@@ -11,7 +11,8 @@ use Rattle.model.specs.Ranges.{anyBelow}
 use Rattle.model.specs.Bitmaps.{wordOf, touches}
 use Rattle.model.specs.Copies.{blockTouches}
 use Rattle.copies.proofs.SourceLaws.{word-le}
-use Rattle.copychecks.proofs.RowLaws.{bits-small, row-small, anyBelow-more, anyBelow-none}
+use Rattle.copychecks.proofs.RowLaws.{bits-small, row-small, anyBelow-none}
+use Rattle.model.proofs.SetupLaws.{anyBelow-more}
 use Rattle.copychecks.proofs.rows_touch.Statement.{statement}
 use Rattle.copychecks.proofs.rows_touch.Tie as tie
 
@@ -79,7 +80,7 @@ loop-again c =
     let a = l .before .before .before .args in
     let f = l .before .before .word-of .ensures .0 in
     let g : l .before .word-of2 .result + 1 ≡ suc (wordOf (a .s .bits) (a .x + a .dx)) = ap (λ (n : ℕ). n + 1) (l .before .word-of2 .ensures .0) ∙ add-one _ in (
-      anyBelow-more (test (a .active) (a .s) (a .x) (a .y) (a .dx)) (l .loop .j) _ _
+      anyBelow-more (test (a .active) (a .s) (a .x) (a .y) (a .dx)) (l .loop .j)
           (c .row-touches .ensures ∙ ap₂ (λ (m n : ℕ). touches (a .active) (a .s .base + 2 * ((a .y + l .loop .j) * a .s .words + m)) (2 * (n - m))) f g) (l .loop .inv .0),
       omega (arith, c .before .loop-test .taken),
     )

@@ -1,8 +1,8 @@
 -- `draw::draw_dot` meets its contract: a coordinate outside the clip draws nothing, else the dot is plotted at its indices.
-use mathlib.Core.Path.{_≡_, sym, ap, _∙_}
+use mathlib.Core.Path.{sym, _∙_}
 use borrow.Author.Needs.{needs}
-use lib.IntN.{_+ℤ_, pos}
-use Rattle.model.specs.Coordinates.{coord, at, Place}
+use lib.IntN.{_+ℤ_}
+use Rattle.model.specs.Coordinates.{coord, at}
 use Rattle.model.specs.Dots.{dot}
 use Rattle.coordinates.specs.Offsets.{turned}
 use Rattle.draw.specs.Canvas.{canvas, painted}

@@ -1,11 +1,16 @@
--- `draw::plot` meets its contract, by the source: nothing leaves all as it was, a colour or a value is put and counted.
+-- `draw::plot` meets its contract, by the source: nothing leaves all as it was, anything else is put and counted.
 use mathlib.Core.Path.{_≡_, refl, sym, ap, _∙_}
+use mathlib.Core.Bool.{true}
+use mathlib.Core.Logic.{_⊎_, inl, inr}
+use native.Mathlib.Omega.{arith}
 use borrow.Author.Needs.{needs}
+use denote.Enum.Declared.{tagOf}
 use lib.IntN.{pos}
 use Rattle.model.specs.declared.Source.{Source}
-use Rattle.model.specs.declared.Source.the-variants.{Colour, Copied}
+use Rattle.model.specs.declared.Source.the-variants as source
 use Rattle.model.specs.Coordinates.{at}
-use Rattle.model.specs.Dots.{dot}
+use Rattle.model.specs.Dots.{dot, something}
+use Rattle.model.proofs.Source.{the-type}
 use Rattle.draw.specs.Canvas.{canvas, painted}
 use Rattle.draw.specs.Targets.{changeWith}
 use Rattle.draw.proofs.TargetLaws.{painted-nothing, painted-hit, counted-put}
@@ -15,33 +20,26 @@ use Rattle.draw.proofs.plot.Tie as tie
 enum-told : tie.Need-enum-told
 enum-told c = search needs
 
-enum-known-source : tie.Need-enum-known-source
-enum-known-source c = search needs
-
-put-colour-requires : tie.Need-put-colour-requires
-put-colour-requires c κs = search needs
+put-requires : tie.Need-put-requires
+put-requires c κs = search needs
 
 add-result : tie.Need-add-result
 add-result c = search needs
 
-enum-known-source-2 : tie.Need-enum-known-source-2
-enum-known-source-2 c = search needs
-
-put-value-requires : tie.Need-put-value-requires
-put-value-requires c κs = search needs
-
-add-result-2 : tie.Need-add-result-2
-add-result-2 c = search needs
-
--- the dot with another source that equals this one
-module _ (c : tie.Start) where
-  with-source : {s : Source} → c .args .source ≡ s
-      → painted (c .args .t) (dot (at (pos (c .args .x)) (pos (c .args .y))) (c .args .source)) (canvas (c .args .screen .now) (c .args .store .now) (c .args .hits))
-      ≡ painted (c .args .t) (dot (at (pos (c .args .x)) (pos (c .args .y))) s) (canvas (c .args .screen .now) (c .args .store .now) (c .args .hits))
-  with-source e = ap (λ (s : Source). painted (c .args .t) (dot (at (pos (c .args .x)) (pos (c .args .y))) s) (canvas (c .args .screen .now) (c .args .store .now) (c .args .hits))) e
+-- the last arm: the source is a colour or a value
+is-something : (s : Source) → (tagOf the-type s ≡ 1) ⊎ (tagOf the-type s ≡ 2) → something s ≡ true
+is-something source.Nothing (inl e) = absurd (omega arith)
+is-something source.Nothing (inr e) = absurd (omega arith)
+is-something (source.Colour w) h = refl
+is-something (source.Copied v) h = refl
 
 returns : tie.Need-returns
-returns c = sym (with-source (c .before .before .before .before) (c .enum-told .given .1) ∙ painted-nothing _ _ _)
+returns c =
+    let start = c .before .before .before .before in
+    sym
+    (ap (λ (s : Source). painted (start .args .t) (dot (at (pos (start .args .x)) (pos (start .args .y))) s) (canvas (start .args .screen .now) (start .args .store .now) (start .args .hits)))
+    (c .enum-told .given .1)
+    ∙ painted-nothing _ _ _)
 
 same-length : tie.Need-same-length
 same-length c = search needs
@@ -52,42 +50,11 @@ same-length-2 c = search needs
 returns-2 : tie.Need-returns-2
 returns-2 c =
     let d = c .before .before .before .before in
-    let start = d .before .before .before .before .before .before .before .before in
-    let told = d .before .before .before .before .source .given in
-    counted-put (start .args .t .picking) (start .args .t .pane) (start .args .t .surface) (changeWith (start .args .t) (Colour (told .0 .0)) (start .args .x) (start .args .y))
-    (start .args .screen .now) (start .args .store .now) _ _ (start .args .hits) (d .put-colour .ensures)
-    ∙ sym (with-source start (told .1) ∙ painted-hit (start .pre .0) (start .pre .1) (Colour (told .0 .0)) refl _)
-
-same-length-3 : tie.Need-same-length-3
-same-length-3 c = search needs
-
-same-length-4 : tie.Need-same-length-4
-same-length-4 c = search needs
-
-returns-3 : tie.Need-returns-3
-returns-3 c =
-    let d = c .before .before .before .before in
-    let start = d .before .before .before .before .before .before .before .before in
-    let told = d .before .before .before .before .source2 .given in
-    counted-put (start .args .t .picking) (start .args .t .pane) (start .args .t .surface) (changeWith (start .args .t) (Copied (told .0 .0)) (start .args .x) (start .args .y))
-    (start .args .screen .now) (start .args .store .now) _ _ (start .args .hits) (d .put-value .ensures)
-    ∙ sym (with-source start (told .1) ∙ painted-hit (start .pre .0) (start .pre .1) (Copied (told .0 .0)) refl _)
+    let start = d .before .before .before .before .before .before in
+    let source = start .args .source in
+    counted-put (start .args .t .picking) (start .args .t .pane) (start .args .t .surface) (changeWith (start .args .t) source (start .args .x) (start .args .y))
+    (start .args .screen .now) (start .args .store .now) _ _ (start .args .hits) (d .put .ensures)
+    ∙ sym (painted-hit (start .pre .0) (start .pre .1) source (is-something source (d .before .before .before .match .keys2)) _)
 
 pub plot-spec : {M : Type 1} → statement M
-plot-spec =
-    tie.close
-    (tie.spec
-    enum-told
-    enum-known-source
-    put-colour-requires
-    add-result
-    enum-known-source-2
-    put-value-requires
-    add-result-2
-    returns
-    same-length
-    same-length-2
-    returns-2
-    same-length-3
-    same-length-4
-    returns-3)
+plot-spec = tie.close (tie.spec enum-told put-requires add-result returns same-length same-length-2 returns-2)

@@ -1,5 +1,5 @@
 -- `gp::obey` meets its contract: a fault is recorded and nothing else, and a command without one is done.
-use mathlib.Core.Path.{_≡_, sym, ap, _∙_}
+use mathlib.Core.Path.{sym, _∙_}
 use borrow.Author.Needs.{needs}
 use Rattle.drawing.specs.Stepping.{left}
 use Rattle.gp.proofs.ObeyLaws.{obeyed-fault, obeyed-done}

@@ -1,7 +1,5 @@
 -- `gp::perform` meets its contract, by the command: a record that a command gave, or a drawing.
-use mathlib.Core.Path.{_≡_, refl}
-use native.Mathlib.Omega.{arith}
-use Rattle.model.specs.declared.Command.the-variants as command
+use mathlib.Core.Path.{refl}
 use Rattle.model.specs.Effects.{effectOf}
 use Rattle.gp.proofs.PerformLaws.{done-record, allowed-as, done-as, call-room, return-kept}
 use borrow.Author.Needs.{needs}

@@ -1,10 +1,9 @@
 -- `gp::run` meets its contract. The invariant: what is left to run gives the same end, the pane is sound, and the commands counted and the
 -- budget left are at most the budget. The measure is the budget left.
 use mathlib.Core.Path.{_≡_, refl, sym, ap, _∙_}
-use Prim.Native.Nat.{ℕ, suc, _+_, _-_, _≤_, _<_}
+use Prim.Native.Nat.{ℕ, suc, _-_, _≤_}
 use native.Mathlib.Omega.{arith}
 use borrow.Author.Needs.{needs}
-use lib.ListN.{length, getD}
 use Rattle.drawing.specs.Stepping.{left}
 use Rattle.gp.proofs.RunningLaws.{Running, onward, onward-none, onward-zero, onward-idle, onward-step, sound-step, count-step}
 use Rattle.gp.proofs.run.Statement.{statement}

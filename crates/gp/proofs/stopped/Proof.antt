@@ -1,5 +1,5 @@
 -- `gp::stopped` meets its contract, by the decoder's answer.
-use mathlib.Core.Path.{_≡_, sym, ap, _∙_}
+use mathlib.Core.Path.{sym, ap, _∙_}
 use borrow.Author.Needs.{needs}
 use Rattle.gp.specs.Obeying.{stoppedOf}
 use Rattle.gp.proofs.stopped.Statement.{statement}

@@ -4,7 +4,7 @@ use Prim.Native.Nat.{_-_, _≤_}
 use native.Mathlib.Omega.{arith}
 use borrow.Author.Needs.{needs}
 use lib.ListN.{length}
-use Rattle.raster.proofs.SpotLaws.{depth-bounds}
+use Rattle.model.proofs.PlaceLaws.{depth-bounds}
 use Rattle.rasterbench.proofs.rasterbench_paint.Statement.{statement}
 use Rattle.rasterbench.proofs.rasterbench_paint.Tie as tie
 
@@ -20,8 +20,8 @@ truth-of-requires c κs = search needs
 loop-holds : tie.Need-loop-holds Inv-loop μ-loop
 loop-holds c = (omega arith, refl)
 
-blend-colour-requires : tie.Need-blend-colour-requires Inv-loop μ-loop
-blend-colour-requires c κs =
+blend-requires : tie.Need-blend-requires Inv-loop μ-loop
+blend-requires c κs =
     let s = c .before .before .before .before .before in
     let l = c .before .before .loop in (
       record {
@@ -44,7 +44,7 @@ loop-less : tie.Need-loop-less Inv-loop μ-loop
 loop-less c = omega arith
 
 loop-again : tie.Need-loop-again Inv-loop μ-loop
-loop-again c = (omega arith, c .before .before .blend-colour .kept .0 ∙ c .before .before .before .before .before .loop .inv .1)
+loop-again c = (omega arith, c .before .before .blend .kept .0 ∙ c .before .before .before .before .before .loop .inv .1)
 
 same-length : tie.Need-same-length Inv-loop μ-loop
 same-length c = c .before .loop .inv .1
@@ -60,7 +60,7 @@ rasterbench-paint-spec =
     μ-loop
     truth-of-requires
     loop-holds
-    blend-colour-requires
+    blend-requires
     add-i
     loop-less
     loop-again

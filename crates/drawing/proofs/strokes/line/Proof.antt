@@ -1,10 +1,9 @@
 -- `drawing::strokes::line` meets its contract: the line's dots painted on the pane's target are what its plan leaves.
-use mathlib.Core.Path.{_≡_, refl, sym, ap, _∙_}
+use mathlib.Core.Path.{refl, ap, _∙_}
 use mathlib.Core.Bool.{false}
 use mathlib.Core.List.{[]}
 use native.Mathlib.Omega.{arith}
 use borrow.Author.Needs.{needs}
-use lib.ListN.{length}
 use Rattle.model.specs.declared.Command.the-variants as command
 use Rattle.model.specs.declared.Point.{Point}
 use Rattle.model.specs.Coordinates.{coord, place}
@@ -13,7 +12,7 @@ use Rattle.model.specs.Lines.{lineDots, line}
 use Rattle.model.specs.Steps.{drewPane}
 use Rattle.draw.specs.declared.Target.{Target}
 use Rattle.draw.specs.Canvas.{canvas, paintedAll}
-use Rattle.draw.specs.Targets.{Ready, targetOf}
+use Rattle.draw.specs.Targets.{targetOf}
 use Rattle.drawing.proofs.AllowedLaws.{sound-sized, line-active}
 use Rattle.drawing.proofs.ReadyLaws.{ready-of, drew-painted}
 use Rattle.drawing.proofs.strokes.line.Statement.{statement}

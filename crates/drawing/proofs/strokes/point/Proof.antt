@@ -1,13 +1,12 @@
 -- `drawing::strokes::point` meets its contract: the point's dot painted on the pane's target are what its plan leaves.
-use mathlib.Core.Path.{_≡_, refl, sym, ap, _∙_}
-use mathlib.Core.Bool.{Bool, false}
+use mathlib.Core.Path.{refl, ap, _∙_}
+use mathlib.Core.Bool.{false}
 use mathlib.Core.List.{[]}
 use native.Mathlib.Omega.{arith}
 use borrow.Author.Needs.{needs}
-use lib.ListN.{length}
 use Rattle.model.specs.declared.Command.the-variants as command
 use Rattle.model.specs.declared.Point.{Point}
-use Rattle.model.specs.Coordinates.{coord, place, moved}
+use Rattle.model.specs.Coordinates.{coord, moved}
 use Rattle.model.specs.Effects.{effectOf}
 use Rattle.model.specs.Lines.{pointAt}
 use Rattle.model.specs.Steps.{drewPane}

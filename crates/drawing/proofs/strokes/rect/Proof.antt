@@ -1,16 +1,10 @@
 -- `drawing::strokes::rect` meets its contract: the outline's dots painted on the pane's target are what its plan leaves.
-use mathlib.Core.Path.{_≡_, refl, sym, ap, _∙_}
-use mathlib.Core.Bool.{Bool, false}
-use mathlib.Core.List.{[]}
-use native.Mathlib.Omega.{arith}
+use mathlib.Core.Path.{refl, ap, _∙_}
 use borrow.Author.Needs.{needs}
-use lib.ListN.{length}
 use Rattle.model.specs.declared.Command.the-variants as command
-use Rattle.model.specs.declared.Point.{Point}
-use Rattle.model.specs.Coordinates.{coord, place, moved}
+use Rattle.model.specs.Coordinates.{coord}
 use Rattle.model.specs.Effects.{effectOf}
 use Rattle.model.specs.Lines.{rectangle}
-use Rattle.model.specs.Steps.{drewPane}
 use Rattle.draw.specs.declared.Target.{Target}
 use Rattle.draw.specs.Canvas.{canvas, paintedAll}
 use Rattle.draw.specs.Targets.{targetOf}

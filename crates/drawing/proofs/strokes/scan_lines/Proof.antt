@@ -1,11 +1,10 @@
 -- `drawing::strokes::scan_lines` meets its contract: the dots of the array's lines painted on the pane's target are what its plan leaves.
-use mathlib.Core.Path.{_≡_, refl, sym, ap, ap₂, _∙_}
-use mathlib.Core.Bool.{Bool, false}
+use mathlib.Core.Path.{refl, sym, ap, ap₂, _∙_}
+use mathlib.Core.Bool.{Bool}
 use mathlib.Core.List.{[]}
 use Prim.Native.Nat.{_*_}
 use native.Mathlib.Omega.{arith}
 use borrow.Author.Needs.{needs}
-use lib.ListN.{length}
 use Rattle.model.specs.declared.Command.the-variants as command
 use Rattle.model.specs.declared.Point.{Point}
 use Rattle.model.specs.Effects.{effectOf}

@@ -5,7 +5,7 @@ use Prim.Native.Nat.{_+_}
 use native.Mathlib.Omega.{arith}
 use borrow.Author.Needs.{needs}
 use Rattle.model.specs.Faults.{bytesBad}
-use Rattle.glyphs.proofs.DataLaws.{bytesBad-inside}
+use Rattle.draw.proofs.ReachLaws.{bytesBad-inside}
 use Rattle.glyphs.proofs.check.codes_bad.Statement.{statement}
 use Rattle.glyphs.proofs.check.codes_bad.Tie as tie
 

@@ -6,7 +6,7 @@ use borrow.Author.Needs.{needs}
 use Rattle.model.specs.Words.{wordAt}
 use Rattle.model.specs.Glyphs.{heightOf}
 use Rattle.model.specs.Faults.{arrayBad}
-use Rattle.glyphs.proofs.DataLaws.{arrayBad-beyond}
+use Rattle.draw.proofs.ReachLaws.{arrayBad-beyond}
 use Rattle.glyphs.proofs.check.descriptor_bad.Statement.{statement}
 use Rattle.glyphs.proofs.check.descriptor_bad.Tie as tie
 

@@ -8,7 +8,8 @@ use Rattle.model.specs.Words.{wordAt}
 use Rattle.model.specs.Glyphs.{descriptor, heightOf}
 use Rattle.model.specs.Faults.{arrayBad, descriptorsBad}
 use Rattle.glyphs.proofs.FontLaws.{baseOf-small}
-use Rattle.glyphs.proofs.CheckLaws.{anyBelow-more, stringBad-spelt}
+use Rattle.model.proofs.SetupLaws.{anyBelow-more}
+use Rattle.glyphs.proofs.CheckLaws.{stringBad-spelt}
 use Rattle.glyphs.proofs.check.descriptors_bad.Statement.{statement}
 use Rattle.glyphs.proofs.check.descriptors_bad.Tie as tie
 

@@ -8,7 +8,7 @@ use Rattle.model.specs.Ranges.{anyBelow}
 use Rattle.model.specs.Glyphs.{offsetWord}
 use Rattle.model.specs.Faults.{arrayBad}
 use Rattle.glyphs.specs.Reading.{offsetsBad}
-use Rattle.glyphs.proofs.CheckLaws.{anyBelow-more}
+use Rattle.model.proofs.SetupLaws.{anyBelow-more}
 use Rattle.glyphs.proofs.check.offsets_bad.Statement.{statement}
 use Rattle.glyphs.proofs.check.offsets_bad.Tie as tie
 

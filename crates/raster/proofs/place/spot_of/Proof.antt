@@ -4,7 +4,8 @@ use Prim.Native.Nat.{_+_}
 use native.Mathlib.Omega.{arith}
 use native.Mathlib.Nat.{mul-le-mul-left}
 use borrow.Author.Needs.{needs}
-use Rattle.raster.proofs.SpotLaws.{depth-bounds, column-in-byte, spot-lies}
+use Rattle.model.proofs.PlaceLaws.{depth-bounds, column-in-byte}
+use Rattle.raster.proofs.SpotLaws.{spot-lies}
 use Rattle.raster.proofs.place.spot_of.Statement.{statement}
 use Rattle.raster.proofs.place.spot_of.Tie as tie
 

@@ -1,6 +1,6 @@
 -- Bytes of the store that the check lets pass: they lie in the store, and none of them is the active bitmap's. So they read while a
 -- command draws as they did before.
-use mathlib.Core.Path.{_≡_, refl, sym}
+use mathlib.Core.Path.{_≡_, refl, sym, ap}
 use mathlib.Core.Logic.{_⊎_, inl, inr, ⊎-elim}
 use mathlib.Core.Bool.{Bool, true, false, _||_}
 use Prim.Native.Nat.{ℕ, _+_, _%_, _≤_, _<_}
@@ -11,14 +11,15 @@ use lib.Dec.{eqb, ltb}
 use borrow.Author.Tests.{lt-ltb, ltb-false, ne-eqb}
 use Rattle.model.specs.declared.Geometry.{Geometry}
 use Rattle.model.specs.declared.Row.{Row}
+use Rattle.model.specs.declared.Pane.{Pane}
 use Rattle.model.specs.declared.Bitmap.{Bitmap}
 use Rattle.model.specs.declared.Bitmap.the-variants as bitmap
 use Rattle.model.specs.Bitmaps.{rowWords, bitmapBytes, storeSurface, surfaceOf, shareSpan, touches}
 use Rattle.model.specs.Faults.{bytesBad, arrayBad}
 use Rattle.model.proofs.Decisions.{holds, either-false}
 use Rattle.draw.specs.declared.Target.{Target}
 use Rattle.draw.specs.Canvas.{rowsEnd, Clear, Reach}
-use Rattle.glyphs.specs.Reading.{Aimed}
+use Rattle.draw.specs.Targets.{isPane, targetOf, Aimed}
 
 module _ (r : Row) (active : Bitmap) where
   pub arrayBad-bytes : (a n : ℕ) → arrayBad r active a n ≡ false → bytesBad r active a n ≡ false
@@ -86,6 +87,11 @@ module _ {t : Target} {g : Geometry} {r : Row} where
         inside = bytesBad-inside r active a n e;
         clear = λ j lo hi. clear active h a n (bytesBad-parts r active a n (omega arith) e .1) j lo hi;
       }
+
+-- a pane's target is its bitmap's
+pub aimed-of : (g : Geometry) (r : Row) (p : Pane) → Aimed (targetOf g r p) g r (p .bitmap)
+unfolding targetOf
+aimed-of g r p = record { pane = λ xmax ymax b e. ap isPane e; surface = refl }
 
 -- a part of bytes in reach
 pub reach-part : {t : Target} {len a n : ℕ} → Reach t len a n → (b m : ℕ) → a ≤ b → b + m ≤ a + n → Reach t len b m

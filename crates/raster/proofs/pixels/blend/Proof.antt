@@ -1,25 +1,22 @@
--- `blend_value` meets its contract: the pixel's byte is stored, blended with the value shifted to the pixel's bits. Assumes nothing.
+-- `blend` meets its contract: the pixel's byte is stored, blended with the byte of the source.
+-- Assumes nothing.
 use mathlib.Core.Path.{ap, _∙_}
-use Prim.Native.Nat.{_*_, _%_, _^_}
 use native.Mathlib.Omega.{arith}
 use borrow.Author.Needs.{needs}
 use lib.ListN.{set}
-use Rattle.model.specs.declared.Source.the-variants.{Copied}
-use Rattle.raster.proofs.SpotLaws.{depth-bounds}
-use Rattle.raster.proofs.BlendLaws.{placed, spot-in, value-bits, blending-at}
-use Rattle.raster.proofs.pixels.blend_value.Statement.{statement}
-use Rattle.raster.proofs.pixels.blend_value.Tie as tie
+use Rattle.model.proofs.PlaceLaws.{depth-bounds}
+use Rattle.raster.proofs.BlendLaws.{placed, spot-in, blending-at}
+use Rattle.raster.proofs.pixels.blend.Statement.{statement}
+use Rattle.raster.proofs.pixels.blend.Tie as tie
 
 spot-of-requires : tie.Need-spot-of-requires
 spot-of-requires c κs =
     let a = c .before .args in
     placed (a .s) (a .buffer .now) (a .x) (a .y) (c .before .pre .0) (omega arith)
 
-cast-source : tie.Need-cast-source
-cast-source c = search needs
-
-shl-source : tie.Need-shl-source
-shl-source c = omega (arith, c .before .spot-of .ensures .inside, depth-bounds (c .before .before .before .pre .0 .fits .depth))
+source-byte-requires : tie.Need-source-byte-requires
+source-byte-requires c κs =
+    (omega (arith, c .spot-of .ensures .inside, depth-bounds (c .before .before .pre .0 .fits .depth)), c .spot-of .ensures .half)
 
 slice-read-blended : tie.Need-slice-read-blended
 slice-read-blended c =
@@ -44,17 +41,17 @@ returns c =
     let s = c .before .before .before .before .before in
     let a = s .args in
     let p = c .before .before .before .spot-of in
+    let h = c .before .before .source-byte in
     ap (set (a .buffer .now) (p .result .at)) (c .blended .ensures)
-    ∙ blending-at (a .s) (a .buffer .now) (a .x) (a .y) (s .pre .0) (p .result) (p .ensures) (a .pen) (Copied (a .value)) (a .truth)
-    (a .value * 2 ^ p .result .shift % 2 ^ 8) (s .pre .1) (value-bits (p .result) (a .s .bits) (a .value) (p .ensures .inside))
+    ∙ blending-at (a .s) (a .buffer .now) (a .x) (a .y) (s .pre .0) (p .result) (p .ensures) (a .pen) (a .source) (a .truth)
+    (h .result) (s .pre .1) (h .ensures)
 
-pub blend-value-spec : {M : Type 1} → statement M
-blend-value-spec =
+pub blend-spec : {M : Type 1} → statement M
+blend-spec =
     tie.close
     (tie.spec
     spot-of-requires
-    cast-source
-    shl-source
+    source-byte-requires
     slice-read-blended
     blended-requires
     slice-write-buffer
