@@ -14,8 +14,8 @@ fn the_papers_example() {
 
 #[test]
 fn scripts_reply_as_written() {
-    let folder = PathBuf::from(env!("CARGO_MANIFEST_DIR")).join("../tests/scripts");
-    let list = fs::read_to_string(folder.join("README.md")).unwrap();
+    let folder = PathBuf::from(env!("CARGO_MANIFEST_DIR")).join("../crates/vectors/data");
+    let list = fs::read_to_string(folder.join("../README.md")).unwrap();
     let mut count = 0;
     for entry in fs::read_dir(&folder).unwrap() {
         let path = entry.unwrap().path();

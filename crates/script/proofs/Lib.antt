@@ -1,2 +1,5 @@
 -- The laws that the proofs of this crate cite.
-pub mod NumberLaws
+pub mod DeskLaws
+pub mod ScriptLaws
+pub mod RoomLaws
+pub mod Example

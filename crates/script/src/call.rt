@@ -1,73 +1,41 @@
-// The lines of the calls: the pane first, then the call's values. Each is lent the screen's rows and the stores, and nothing more.
+// The lines of the calls obeyed. Each call is lent the screen's rows and the stores, and nothing more.
 use crate::session::Session;
 use crate::session::Step;
 use crate::session::counted;
 use crate::session::malformed;
 use crate::session::replied;
-use crate::text::Number;
-use crate::text::bytes;
-use crate::text::commas;
-use crate::text::decimal;
-use crate::text::hex;
+use parser::Line;
+ghost use mathlib.Core.Path.{_≡_};
+ghost use mathlib.Core.Bool.{true};
+ghost use lib.ListN.{take};
+ghost use Rattle.model.specs.Calls.{exec, on};
+ghost use Rattle.model.specs.Calls as calls;
+ghost use Rattle.console.specs.Answers.{state};
+ghost use Rattle.parser.specs.Lines.{meant};
+ghost use Rattle.script.specs.Desk.{desk, moved, made, asked, obeyed};
 
-// Put of the scratch buffer's first bytes.
-fn put_first(
+// Put of the buffer's first bytes.
+fn put(
     screen: &[u8],
     stores: &mut [u8],
-    scratch: &[u8],
-    count: usize,
+    buffer: &[u8],
     session: Session,
     pane: u32,
     address: u32,
-) -> Step {
-    let n = counted(count, scratch);
+    count: u32,
+) -> Step
+    ensures { λ r. ⌜ moved (desk (r .session) (now (screen .entry)) (now (stores .exit))) (r .outcome) ≡ made session 119 (exec (state (session .console) (now (screen .entry)) (now (stores .entry))) (on pane (calls.put address (take count (now (buffer .entry)))))) ⌝ }
+{
+    let n = counted(count as usize, buffer);
     let console = session.console;
-    let answered = console::put(screen, stores, console, pane, address, &scratch[..n]);
+    let answered = console::put(screen, stores, console, pane, address, &buffer[..n]);
     replied(session, b'w', answered)
 }
 
-// The line `w,pane,address,bytes`: put.
-fn put(
-    line: &[u8],
-    screen: &[u8],
-    stores: &mut [u8],
-    scratch: &mut [u8],
-    session: Session,
-) -> Step {
-    if commas(line) != 3 {
-        return malformed(session);
-    }
-    let Number::Good(pane) = decimal(line, 1) else {
-        return malformed(session);
-    };
-    let Number::Good(address) = hex(line, 2) else {
-        return malformed(session);
-    };
-    let Number::Good(count) = bytes(line, 3, scratch) else {
-        return malformed(session);
-    };
-    put_first(
-        screen,
-        stores,
-        scratch,
-        count as usize,
-        session,
-        pane,
-        address,
-    )
-}
-
-// The line `g,pane,address`: start.
-fn start(line: &[u8], screen: &[u8], stores: &[u8], session: Session) -> Step {
-    if commas(line) != 2 {
-        return malformed(session);
-    }
-    let Number::Good(pane) = decimal(line, 1) else {
-        return malformed(session);
-    };
-    let Number::Good(address) = hex(line, 2) else {
-        return malformed(session);
-    };
+// Start.
+fn start(screen: &[u8], stores: &[u8], session: Session, pane: u32, address: u32) -> Step
+    ensures { λ r. ⌜ moved (desk (r .session) (now (screen .entry)) (now (stores .entry))) (r .outcome) ≡ made session 103 (exec (state (session .console) (now (screen .entry)) (now (stores .entry))) (on pane (calls.start address))) ⌝ }
+{
     let console = session.console;
     replied(
         session,
@@ -76,17 +44,10 @@ fn start(line: &[u8], screen: &[u8], stores: &[u8], session: Session) -> Step {
     )
 }
 
-// The line `r,pane,budget`: run.
-fn run(line: &[u8], screen: &mut [u8], stores: &mut [u8], session: Session) -> Step {
-    if commas(line) != 2 {
-        return malformed(session);
-    }
-    let Number::Good(pane) = decimal(line, 1) else {
-        return malformed(session);
-    };
-    let Number::Good(budget) = decimal(line, 2) else {
-        return malformed(session);
-    };
+// Run.
+fn run(screen: &mut [u8], stores: &mut [u8], session: Session, pane: u32, budget: u32) -> Step
+    ensures { λ r. ⌜ moved (desk (r .session) (now (screen .exit)) (now (stores .exit))) (r .outcome) ≡ made session 114 (exec (state (session .console) (now (screen .entry)) (now (stores .entry))) (on pane (calls.run budget))) ⌝ }
+{
     let console = session.console;
     replied(
         session,
@@ -95,32 +56,18 @@ fn run(line: &[u8], screen: &mut [u8], stores: &mut [u8], session: Session) -> S
     )
 }
 
-// The line `l,pane`: look.
-fn look(line: &[u8], screen: &[u8], stores: &[u8], session: Session) -> Step {
-    if commas(line) != 1 {
-        return malformed(session);
-    }
-    let Number::Good(pane) = decimal(line, 1) else {
-        return malformed(session);
-    };
+// Look.
+fn look(screen: &[u8], stores: &[u8], session: Session, pane: u32) -> Step
+    ensures { λ r. ⌜ moved (desk (r .session) (now (screen .entry)) (now (stores .entry))) (r .outcome) ≡ made session 108 (exec (state (session .console) (now (screen .entry)) (now (stores .entry))) (on pane calls.look)) ⌝ }
+{
     let console = session.console;
     replied(session, b'l', console::look(screen, stores, console, pane))
 }
 
-// The line `x,pane,x,y`: pixel.
-fn pixel(line: &[u8], screen: &[u8], stores: &[u8], session: Session) -> Step {
-    if commas(line) != 3 {
-        return malformed(session);
-    }
-    let Number::Good(pane) = decimal(line, 1) else {
-        return malformed(session);
-    };
-    let Number::Good(x) = decimal(line, 2) else {
-        return malformed(session);
-    };
-    let Number::Good(y) = decimal(line, 3) else {
-        return malformed(session);
-    };
+// Pixel.
+fn pixel(screen: &[u8], stores: &[u8], session: Session, pane: u32, x: u32, y: u32) -> Step
+    ensures { λ r. ⌜ moved (desk (r .session) (now (screen .entry)) (now (stores .entry))) (r .outcome) ≡ made session 120 (exec (state (session .console) (now (screen .entry)) (now (stores .entry))) (on pane (calls.pixel x y))) ⌝ }
+{
     let console = session.console;
     replied(
         session,
@@ -129,42 +76,42 @@ fn pixel(line: &[u8], screen: &[u8], stores: &[u8], session: Session) -> Step {
     )
 }
 
-// A line by its letter, with the buffers' parts in use.
-fn by_letter(
-    letter: u8,
-    line: &[u8],
+// A call made, with the bytes in use; any other line prints ?.
+fn by_kind(
+    said: Line,
     screen: &mut [u8],
     stores: &mut [u8],
-    scratch: &mut [u8],
+    buffer: &[u8],
     session: Session,
-) -> Step {
-    match letter {
-        b'w' => put(line, screen, stores, scratch, session),
-        b'g' => start(line, screen, stores, session),
-        b'r' => run(line, screen, stores, session),
-        b'l' => look(line, screen, stores, session),
-        b'x' => pixel(line, screen, stores, session),
+) -> Step
+    ensures { λ r. ⌜ moved (desk (r .session) (now (screen .exit)) (now (stores .exit))) (r .outcome) ≡ asked (meant said (now (buffer .entry))) (desk session (now (screen .entry)) (now (stores .entry))) ⌝ }
+{
+    match said {
+        Line::Put {
+            pane,
+            address,
+            count,
+        } => put(screen, stores, buffer, session, pane, address, count),
+        Line::Start { pane, address } => start(screen, stores, session, pane, address),
+        Line::Run { pane, budget } => run(screen, stores, session, pane, budget),
+        Line::Look { pane } => look(screen, stores, session, pane),
+        Line::Pixel { pane, x, y } => pixel(screen, stores, session, pane, x, y),
         _ => malformed(session),
     }
 }
 
-// The line of a call. It prints ? before an accepted `o`.
-pub(crate) fn call(
-    letter: u8,
-    line: &[u8],
+// A line after an accepted `o`: `s`, `p` and `o` print ?.
+pub(crate) fn obey(
+    said: Line,
     screen: &mut [u8],
     stores: &mut [u8],
-    scratch: &mut [u8],
+    buffer: &[u8],
     session: Session,
-) -> Step {
+) -> Step
+    requires { ⌜ session .opened ≡ true ⌝ }
+    ensures { λ r. ⌜ moved (desk (r .session) (now (screen .exit)) (now (stores .exit))) (r .outcome) ≡ obeyed (meant said (now (buffer .entry))) (desk session (now (screen .entry)) (now (stores .entry))) ⌝ }
+{
     let n = counted(session.screen as usize, screen);
     let m = counted(session.stores as usize, stores);
-    by_letter(
-        letter,
-        line,
-        &mut screen[..n],
-        &mut stores[..m],
-        scratch,
-        session,
-    )
+    by_kind(said, &mut screen[..n], &mut stores[..m], buffer, session)
 }

@@ -1,17 +1,20 @@
-// The script program on slices: lines in, replies out. Each line is taken apart into fields, obeyed, and its reply written. A
-// field's number is that of specs/Numbers.antt; what the calls do is the console's own contract. Of all else it is shown that it is safe and ends.
-mod text; // text.rt: a line's end, its fields, their numbers and bytes
+// The script program on slices: lines in, replies out. Each line is taken apart into what it says, obeyed, and its reply written: specs/ has
+// the definition of each step, and `answered` that of the whole program.
 mod session; // session.rt: what a script has said so far
-mod reply; // reply.rt: a reply as text
-mod setting; // setting.rt: the lines before the calls: s, p and o
-mod call; // call.rt: the lines of the calls: w, g, r, l and x
-mod line; // line.rt: one line obeyed, by its letter
+mod setting; // setting.rt: the lines before the calls obeyed: s, p and o
+mod call; // call.rt: the lines of the calls obeyed: w, g, r, l and x
 
+use session::Outcome;
 use session::Session;
-use session::counted;
+use session::Step;
+ghost use mathlib.Core.Path.{_≡_};
 ghost use Prim.Native.Nat.{_≤_};
-ghost use lib.ListN.{length};
+ghost use lib.ListN.{length, take, replicate};
 ghost use Rattle.io.specs.Counts.{Counts};
+ghost use Rattle.parser.specs.Lines.{linesOf, lineOf, meant};
+ghost use Rattle.script.specs.Desk.{desk, moved, obeyed, begun};
+ghost use Rattle.printer.specs.Replies.{Wrote};
+ghost use Rattle.script.specs.Scripts.{textOf, answered, printed, room};
 
 // The longest script.
 const MOST_SCRIPT: usize = 8192;
@@ -22,24 +25,46 @@ struct Printed {
     written: usize,
 }
 
-// Obeys the lines of a script, with a screen and stores that are all zero, and writes the replies to the start of a buffer. Answers how
-// many bytes they take. A script that is too long gets one ?. Bytes that the buffer has no room for are left out: sixteen times the
-// longest script is enough, since no reply is more than ten times as long as its line.
-pub fn answer(
-    script: &[u8],
-    screen: &mut [u8],
-    stores: &mut [u8],
-    scratch: &mut [u8],
-    out: &mut [u8],
-) -> usize
+// Obeys the lines of a script and writes the replies to the start of a buffer. Answers how many bytes they take. What the buffer has no room
+// for is left out: nothing, where it has `room`.
+pub fn answer(script: &[u8], out: &mut [u8]) -> usize
     ensures { λ r. ⌜ Counts r (now (out .exit)) ⌝ }
+    ensures { λ r. ⌜ take r (now (out .exit)) ≡ take (length (now (out .entry))) (answered (now (script .entry))) ⌝ }
+    ensures { λ r. ⌜ (room ≤ length (now (out .entry)) → take r (now (out .exit)) ≡ answered (now (script .entry))) ⌝ }
 {
     if script.len() > MOST_SCRIPT {
-        let written = reply::malformed(out, 0);
-        return counted(written, out);
+        return printer::malformed(out, 0);
     }
-    let written = lines(script, screen, stores, scratch, out);
-    counted(written, out)
+    let mut screen = screen_room();
+    let mut stores = stores_room();
+    let mut scratch = bytes_room();
+    lines(script, &mut screen, &mut stores, &mut scratch, out)
+}
+
+// Room for all that a script can print: `room` bytes, as the array's type says.
+pub fn room() -> [u8; 786432] {
+    [0; 786432]
+}
+
+// The largest screen, zeroed.
+fn screen_room() -> [u8; 32768]
+    ensures { λ r. ⌜ r ≡ replicate 32768 0 ⌝ }
+{
+    [0; 32768]
+}
+
+// The largest stores, zeroed.
+fn stores_room() -> [u8; 16384]
+    ensures { λ r. ⌜ r ≡ replicate 16384 0 ⌝ }
+{
+    [0; 16384]
+}
+
+// Room for the bytes of one put: two digits each, no more than the longest script has.
+fn bytes_room() -> [u8; 4096]
+    ensures { λ r. ⌜ 4096 ≡ length r ⌝ }
+{
+    [0; 4096]
 }
 
 // Obeys line after line, and answers how many bytes of replies there are.
@@ -51,12 +76,15 @@ fn lines(
     out: &mut [u8],
 ) -> usize
     requires { ⌜ length (now script) ≤ 8192 ⌝ }
+    requires { ⌜ 4096 ≤ length (now scratch) ⌝ }
+    ensures { λ r. ⌜ Counts r (now (out .exit)) ⌝ }
+    ensures { λ r. ⌜ take r (now (out .exit)) ≡ take (length (now (out .entry))) (printed (linesOf (now (script .entry))) (desk begun (now (screen .entry)) (now (stores .entry)))) ⌝ }
 {
     let mut session = session::begun();
     let mut written = 0;
     let mut from = 0;
     while from < script.len() {
-        let end = text::line_end(script, from);
+        let end = parser::line_end(script, from);
         let next = end + 1;
         let printed = one_line(
             &script[from..end],
@@ -83,13 +111,48 @@ fn one_line(
     out: &mut [u8],
     session: Session,
     written: usize,
-) -> Printed {
-    let step = line::obey(line, screen, stores, scratch, session);
+) -> Printed
+    requires { ⌜ length (now line) ≤ 8192 ⌝ }
+    requires { ⌜ 4096 ≤ length (now scratch) ⌝ }
+    requires { ⌜ written ≤ length (now out) ⌝ }
+    ensures { λ r. ⌜ desk (r .session) (now (screen .exit)) (now (stores .exit)) ≡ obeyed (lineOf (now (line .entry))) (desk session (now (screen .entry)) (now (stores .entry))) .desk ⌝ }
+    ensures { λ r. ⌜ Wrote (now (out .entry)) written (textOf (obeyed (lineOf (now (line .entry))) (desk session (now (screen .entry)) (now (stores .entry))) .outcome)) (now (out .exit)) (r .written) ⌝ }
+{
+    let said = parser::parse(line, scratch);
+    let step = obey(said, screen, stores, scratch, session);
     let outcome = step.outcome;
-    let after = reply::print(out, written, outcome);
+    let after = print(out, written, outcome);
     let next = step.session;
     Printed {
         session: next,
         written: after,
+    }
+}
+
+// Obeys a line. Before an accepted `o` only `s`, `p` and `o` are taken, after it only the calls.
+fn obey(
+    said: parser::Line,
+    screen: &mut [u8],
+    stores: &mut [u8],
+    scratch: &[u8],
+    session: Session,
+) -> Step
+    ensures { λ r. ⌜ moved (desk (r .session) (now (screen .exit)) (now (stores .exit))) (r .outcome) ≡ obeyed (meant said (now (scratch .entry))) (desk session (now (screen .entry)) (now (stores .entry))) ⌝ }
+{
+    if session.opened {
+        return call::obey(said, screen, stores, scratch, session);
+    }
+    setting::obey(said, screen, stores, session)
+}
+
+// What a line comes to, printed.
+fn print(out: &mut [u8], at: usize, outcome: Outcome) -> usize
+    requires { ⌜ at ≤ length (now out) ⌝ }
+    ensures { λ r. ⌜ Wrote (now (out .entry)) at (textOf outcome) (now (out .exit)) r ⌝ }
+{
+    match outcome {
+        Outcome::Malformed => printer::malformed(out, at),
+        Outcome::Taken => at,
+        Outcome::Replied(letter, reply) => printer::reply(out, at, letter, reply),
     }
 }

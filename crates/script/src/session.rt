@@ -1,19 +1,14 @@
 // What a script has said so far.
-use model::Bitmap;
-use model::Clip;
 use model::Console;
-use model::Flags;
-use model::Font;
 use model::Geometry;
-use model::Pane;
-use model::Pen;
-use model::Point;
-use model::Progress;
 use model::Reply;
-use model::Returns;
 use model::Row;
-use model::Text;
+ghost use mathlib.Core.Path.{_≡_};
+ghost use Prim.Native.Nat.{min};
+ghost use lib.ListN.{length};
 ghost use Rattle.io.specs.Counts.{Counts};
+ghost use Rattle.script.specs.Desk.{begun, stepped, withConsole};
+ghost use Rattle.script.specs.declared.session.Outcome.the-variants as outcome;
 
 // The console record as far as the lines have filled it, whether an `s` was taken, whether an `o` was accepted, and the bytes that
 // the screen's rows and the stores take.
@@ -41,6 +36,7 @@ pub(crate) struct Step {
 // The number itself, and no more than the buffer has bytes.
 pub(crate) fn counted(n: usize, buffer: &[u8]) -> usize
     ensures { λ r. ⌜ Counts r (now (buffer .entry)) ⌝ }
+    ensures { λ r. ⌜ r ≡ min n (length (now (buffer .entry))) ⌝ }
 {
     if buffer.len() < n {
         return buffer.len();
@@ -49,7 +45,9 @@ pub(crate) fn counted(n: usize, buffer: &[u8]) -> usize
 }
 
 // A line that prints ? and does nothing.
-pub(crate) fn malformed(session: Session) -> Step {
+pub(crate) fn malformed(session: Session) -> Step
+    ensures { λ r. ⌜ r ≡ stepped session outcome.Malformed ⌝ }
+{
     Step {
         session,
         outcome: Outcome::Malformed,
@@ -57,7 +55,9 @@ pub(crate) fn malformed(session: Session) -> Step {
 }
 
 // A line that is taken and prints nothing.
-pub(crate) fn taken(session: Session) -> Step {
+pub(crate) fn taken(session: Session) -> Step
+    ensures { λ r. ⌜ r ≡ stepped session outcome.Taken ⌝ }
+{
     Step {
         session,
         outcome: Outcome::Taken,
@@ -65,7 +65,9 @@ pub(crate) fn taken(session: Session) -> Step {
 }
 
 // A call that was made: the record after it, and its reply under the line's letter.
-pub(crate) fn replied(session: Session, letter: u8, answered: console::Answered) -> Step {
+pub(crate) fn replied(session: Session, letter: u8, answered: console::Answered) -> Step
+    ensures { λ r. ⌜ r ≡ stepped (withConsole session (answered .console)) (outcome.Replied letter (answered .reply)) ⌝ }
+{
     let console = answered.console;
     let reply = answered.reply;
     Step {
@@ -74,19 +76,10 @@ pub(crate) fn replied(session: Session, letter: u8, answered: console::Answered)
     }
 }
 
-// A session in which nothing was said.
-pub(crate) fn begun() -> Session {
-    Session {
-        console: blank_console(),
-        sized: false,
-        opened: false,
-        screen: 0,
-        stores: 0,
-    }
-}
-
-// A console record without rows. Set-up makes its pane records anew.
-fn blank_console() -> Console {
+// A session in which nothing was said: a console record without rows.
+pub(crate) fn begun() -> Session
+    ensures { λ r. ⌜ r ≡ begun ⌝ }
+{
     let row = Row {
         left: 0,
         top: 0,
@@ -96,58 +89,22 @@ fn blank_console() -> Console {
         len: 0,
     };
     let rows = [row; 8];
-    let pane = blank_pane();
+    let pane = console::fresh();
     let panes = [pane; 8];
-    Console {
-        geometry: Geometry {
-            width: 0,
-            height: 0,
-            depth: 0,
-        },
-        count: 0,
-        rows,
-        panes,
-    }
-}
-
-// A pane record that is all zero.
-fn blank_pane() -> Pane {
-    Pane {
-        progress: Progress {
-            status: 0,
-            fault: 0,
-            pointer: 0,
-        },
-        position: Point { x: 0, y: 0 },
-        bitmap: Bitmap::Absent,
-        clip: Clip {
-            xmin: 0,
-            ymin: 0,
-            xmax: 0,
-            ymax: 0,
-        },
-        pen: Pen {
-            fore: 0,
-            back: 0,
-            op: 0,
-            mask: 0,
-            pattern: 0,
-            transparent: false,
-        },
-        text: Text {
-            spacing: 0,
-            path: 0,
-            rotation: 0,
-            font: Font::Absent,
-        },
-        flags: Flags {
-            picking: false,
-            pick: false,
-            trap: false,
-        },
-        returns: Returns {
-            addresses: [0; 8],
+    Session {
+        console: Console {
+            geometry: Geometry {
+                width: 0,
+                height: 0,
+                depth: 0,
+            },
             count: 0,
+            rows,
+            panes,
         },
+        sized: false,
+        opened: false,
+        screen: 0,
+        stores: 0,
     }
 }

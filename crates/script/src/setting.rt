@@ -1,16 +1,23 @@
-// The lines before the calls: `s`, the screen; `p`, a pane; `o`, set-up.
+// The lines before the calls obeyed: `s`, the screen; `p`, a pane; `o`, set-up.
 use crate::session::Session;
 use crate::session::Step;
 use crate::session::counted;
 use crate::session::malformed;
 use crate::session::replied;
 use crate::session::taken;
-use crate::text::Number;
-use crate::text::commas;
-use crate::text::decimal;
 use model::Geometry;
 use model::Reply;
 use model::Row;
+use parser::Line;
+ghost use mathlib.Core.Path.{_≡_};
+ghost use mathlib.Core.Bool.{false};
+ghost use mathlib.Core.List.{List};
+ghost use Prim.Native.Nat.{ℕ, _+_, _*_, _≤_, _<_};
+ghost use Rattle.model.specs.Setup.{screenBytes};
+ghost use Rattle.parser.specs.Lines as line;
+ghost use Rattle.script.specs.Desk.{desk, moved, stepped, withConsole, afterSetUp, obeyed, mostScreen};
+ghost use Rattle.parser.specs.Lines.{meant};
+ghost use Rattle.script.specs.declared.session.Outcome.the-variants as outcome;
 
 // The largest screen and the largest stores, in bytes.
 const MOST_SCREEN: u64 = 32_768;
@@ -21,7 +28,9 @@ const MOST_STORES: u64 = 16_384;
 const MOST_PANES: usize = 8;
 
 // The bytes of rows of so many words, or a number above the limit if they pass it.
-fn rows_bytes(words: u64, height: u64) -> u64 {
+fn rows_bytes(words: u64, height: u64) -> u64
+    ensures { λ r. ⌜ (r ≤ mostScreen → r ≡ 2 * (height * words)) × (mostScreen < r → mostScreen < 2 * (height * words)) ⌝ }
+{
     if words == 0 {
         return 0;
     }
@@ -38,13 +47,21 @@ fn rows_bytes(words: u64, height: u64) -> u64 {
 }
 
 // The bytes that the screen's rows take, or a number above the limit if they pass it.
-fn screen_bytes(g: Geometry) -> u64 {
+fn screen_bytes(g: Geometry) -> u64
+    ensures { λ r. ⌜ (r ≤ mostScreen → r ≡ screenBytes g) × (mostScreen < r → mostScreen < screenBytes g) ⌝ }
+{
     let bits = (g.width as u64) * (g.depth as u64);
     rows_bytes(bits / 16 + (bits % 16 + 15) / 16, g.height as u64)
 }
 
-// Takes a geometry whose rows keep to the limit, unless there is one already.
-fn sized(session: Session, geometry: Geometry) -> Step {
+// The line `s` with a geometry: taken if its rows keep to the limit, unless there is one already.
+fn sized(session: Session, geometry: Geometry) -> Step
+    requires { ⌜ session .opened ≡ false ⌝ }
+    ensures { λ r. ⌜ ((screen stores : List ℕ) → moved (desk (r .session) screen stores) (r .outcome) ≡ obeyed (line.sizing geometry) (desk session screen stores)) ⌝ }
+{
+    if session.sized {
+        return malformed(session);
+    }
     let bytes = screen_bytes(geometry);
     if bytes > MOST_SCREEN {
         return malformed(session);
@@ -59,35 +76,12 @@ fn sized(session: Session, geometry: Geometry) -> Step {
     })
 }
 
-// The line `s,width,height,depth`.
-pub(crate) fn screen(line: &[u8], session: Session) -> Step {
-    if session.sized {
-        return malformed(session);
-    }
-    if commas(line) != 3 {
-        return malformed(session);
-    }
-    let Number::Good(width) = decimal(line, 1) else {
-        return malformed(session);
-    };
-    let Number::Good(height) = decimal(line, 2) else {
-        return malformed(session);
-    };
-    let Number::Good(depth) = decimal(line, 3) else {
-        return malformed(session);
-    };
-    sized(
-        session,
-        Geometry {
-            width,
-            height,
-            depth,
-        },
-    )
-}
-
-// Takes a pane whose store keeps to the limit, as the table's next row. Its store begins where the one before ends.
-fn added(session: Session, row: Row) -> Step {
+// The line `p` with a row: taken as the table's next if its store keeps to the limit. Its store begins where the one before ends.
+fn added(session: Session, row: Row) -> Step
+    requires { ⌜ session .opened ≡ false ⌝ }
+    requires { ⌜ row .start ≡ session .stores ⌝ }
+    ensures { λ r. ⌜ ((screen stores : List ℕ) → moved (desk (r .session) screen stores) (r .outcome) ≡ obeyed (line.adding (row .left) (row .top) (row .width) (row .height) (row .len)) (desk session screen stores)) ⌝ }
+{
     let k = session.console.count as usize;
     if k >= MOST_PANES {
         return malformed(session);
@@ -106,39 +100,10 @@ fn added(session: Session, row: Row) -> Step {
     })
 }
 
-// The line `p,left,top,width,height,store length`.
-pub(crate) fn pane(line: &[u8], session: Session) -> Step {
-    if commas(line) != 5 {
-        return malformed(session);
-    }
-    let Number::Good(left) = decimal(line, 1) else {
-        return malformed(session);
-    };
-    let Number::Good(top) = decimal(line, 2) else {
-        return malformed(session);
-    };
-    let Number::Good(width) = decimal(line, 3) else {
-        return malformed(session);
-    };
-    let Number::Good(height) = decimal(line, 4) else {
-        return malformed(session);
-    };
-    let Number::Good(len) = decimal(line, 5) else {
-        return malformed(session);
-    };
-    let row = Row {
-        left,
-        top,
-        width,
-        height,
-        start: session.stores,
-        len,
-    };
-    added(session, row)
-}
-
 // The session with set-up's answer: opened if it was accepted.
-fn opened(session: Session, answered: console::Answered) -> Step {
+fn opened(session: Session, answered: console::Answered) -> Step
+    ensures { λ r. ⌜ r ≡ stepped (withConsole (afterSetUp session (answered .reply)) (answered .console)) (outcome.Replied 111 (answered .reply)) ⌝ }
+{
     let reply = answered.reply;
     match reply {
         Reply::Done => replied(
@@ -154,11 +119,11 @@ fn opened(session: Session, answered: console::Answered) -> Step {
 }
 
 // The line `o`: set-up of what the lines before it said.
-pub(crate) fn open(line: &[u8], screen: &[u8], stores: &[u8], session: Session) -> Step {
+fn open(screen: &[u8], stores: &[u8], session: Session) -> Step
+    requires { ⌜ session .opened ≡ false ⌝ }
+    ensures { λ r. ⌜ moved (desk (r .session) (now (screen .entry)) (now (stores .entry))) (r .outcome) ≡ obeyed line.opening (desk session (now (screen .entry)) (now (stores .entry))) ⌝ }
+{
     if !session.sized {
-        return malformed(session);
-    }
-    if commas(line) != 0 {
         return malformed(session);
     }
     let n = counted(session.screen as usize, screen);
@@ -168,4 +133,33 @@ pub(crate) fn open(line: &[u8], screen: &[u8], stores: &[u8], session: Session) 
         session,
         console::set_up(&screen[..n], &stores[..m], console),
     )
+}
+
+// A line before an accepted `o`: a call prints ?.
+pub(crate) fn obey(said: Line, screen: &[u8], stores: &[u8], session: Session) -> Step
+    requires { ⌜ session .opened ≡ false ⌝ }
+    ensures { λ r. ⌜ ((buffer : List ℕ) → moved (desk (r .session) (now (screen .entry)) (now (stores .entry))) (r .outcome) ≡ obeyed (meant said buffer) (desk session (now (screen .entry)) (now (stores .entry)))) ⌝ }
+{
+    match said {
+        Line::Screen(geometry) => sized(session, geometry),
+        Line::Pane {
+            left,
+            top,
+            width,
+            height,
+            len,
+        } => added(
+            session,
+            Row {
+                left,
+                top,
+                width,
+                height,
+                start: session.stores,
+                len,
+            },
+        ),
+        Line::Open => open(screen, stores, session),
+        _ => malformed(session),
+    }
 }

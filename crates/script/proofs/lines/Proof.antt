@@ -1,13 +1,18 @@
--- Each line lies in the script, and the next begins after it. The invariant: every buffer keeps its length.
+-- Each line lies in the script, and the next begins after it. The invariant: what is left prints the rest, and every buffer keeps its length.
 use mathlib.Core.Path.{_≡_}
 use Prim.Native.Nat.{_-_}
+use native.Mathlib.Omega.{arith}
 use lib.ListN.{length}
+use Rattle.script.proofs.DeskLaws.{counts}
+use Rattle.script.proofs.ScriptLaws.{Along, along-none, along-next, along-all}
 use borrow.Author.Needs.{needs}
 use Rattle.script.proofs.lines.Statement.{statement}
 use Rattle.script.proofs.lines.Tie as tie
 
 abbrev Inv-loop : tie.InvT-loop
-Inv-loop script screen₀ stores₀ scratch₀ out₀ session₀ written₀ from₀ screen stores scratch out session written from = (length screen ≡ length screen₀) × (length stores ≡ length stores₀) × (length scratch ≡ length scratch₀) × (length out ≡ length out₀)
+Inv-loop script screen₀ stores₀ scratch₀ out₀ session₀ written₀ from₀ screen stores scratch out session written from =
+    (length screen ≡ length screen₀) × (length stores ≡ length stores₀) × (length scratch ≡ length scratch₀) × (length out ≡ length out₀)
+    × Along script screen₀ stores₀ out₀ session screen stores out written from
 
 abbrev μ-loop : tie.MeasureT-loop
 μ-loop script screen₀ stores₀ scratch₀ out₀ session₀ written₀ from₀ screen stores scratch out session written from = length script - from
@@ -16,7 +21,7 @@ begun-requires : tie.Need-begun-requires Inv-loop μ-loop
 begun-requires c κs = search needs
 
 loop-holds : tie.Need-loop-holds Inv-loop μ-loop
-loop-holds c = search needs
+loop-holds c = (search needs, search needs, search needs, search needs, along-none _ _ _ _ (c .begun .ensures))
 
 line-end-requires : tie.Need-line-end-requires Inv-loop μ-loop
 line-end-requires c κs = search needs
@@ -40,7 +45,16 @@ loop-less : tie.Need-loop-less Inv-loop μ-loop
 loop-less c = search needs
 
 loop-again : tie.Need-loop-again Inv-loop μ-loop
-loop-again c = search needs
+loop-again c =
+    let step = c .before .before .before .before .before .before .before .before .before in
+    let line = step .before .before .before .before .before .before in
+    let l = line .before .before in (
+      search needs,
+      search needs,
+      search needs,
+      search needs,
+      along-next _ _ _ _ (l .loop .inv .4) (l .loop .inv .3) (line .before .loop-test .taken) (line .line-end .ensures .1) (step .one-line .ensures .0) (step .one-line .ensures .1),
+    )
 
 same-length : tie.Need-same-length Inv-loop μ-loop
 same-length c = search needs
@@ -55,7 +69,9 @@ same-length-4 : tie.Need-same-length-4 Inv-loop μ-loop
 same-length-4 c = search needs
 
 returns : tie.Need-returns Inv-loop μ-loop
-returns c = search needs
+returns c =
+    let i = c .before .loop .inv in
+    (counts _ _ (omega (arith, i .3, i .4 .wrote .fits)), along-all _ _ _ _ (i .4) (c .loop-test .left))
 
 pub lines-spec : {M : Type 1} → statement M
 lines-spec =

@@ -1,5 +1,6 @@
 -- A product of two 32-bit numbers fits 64 bits.
-use Prim.Native.Nat.{_*_, _≤_}
+use mathlib.Core.Path.{_≡_}
+use Prim.Native.Nat.{ℕ, _+_, _*_, _/_, _%_, _≤_}
 use native.Mathlib.Omega.{arith}
 use native.Mathlib.Nat.{mul-le-mul}
 use borrow.Author.Needs.{needs}
@@ -8,6 +9,10 @@ use Rattle.script.proofs.setting.screen_bytes.Tie as tie
 
 product : (c : tie.After-struct-known2) → c .before .before .args .g .width * c .before .before .args .g .depth ≤ 4294967295 * 4294967295
 product c = mul-le-mul {n₂ = 4294967295} {m₂ = 4294967295} (omega arith) (omega arith)
+
+-- the words of a row, by the bits' quotient and remainder
+words : (bits : ℕ) → bits / 16 + (bits % 16 + 15) / 16 ≡ (bits + 15) / 16
+words bits = omega arith
 
 cast-bits : tie.Need-cast-bits
 cast-bits c = search needs
@@ -31,7 +36,9 @@ rows-bytes-requires : tie.Need-rows-bytes-requires
 rows-bytes-requires c κs = search needs
 
 returns : tie.Need-returns
-returns c = search needs
+returns c =
+    let a = c .before .before .before .before .args in
+    rw (words (a .g .width * a .g .depth)) at (c .rows-bytes .ensures)
 
 pub screen-bytes-spec : {M : Type 1} → statement M
 screen-bytes-spec =

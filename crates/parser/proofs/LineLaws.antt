@@ -1,0 +1,28 @@
+-- Laws of what a line says.
+use mathlib.Core.Path.{_≡_, refl, sym, _∙_}
+use mathlib.Core.List.{List, [], _∷_}
+use Prim.Native.Nat.{ℕ}
+use native.Mathlib.Omega.{arith}
+use lib.ListN.{length, getD}
+use lib.Seq.{length-take-le}
+use Rattle.parser.specs.Lines.{before, comma, fieldsOf, firstField, malformed, byLetter, lettered, lineOf}
+use Rattle.parser.proofs.PieceLaws.{before-le, field-first}
+
+-- a first field of another length than one is no letter
+lettered-other : (f : List ℕ) (fs : List (List ℕ)) → (length f ≡ 1 → ⊥) → lettered f fs ≡ malformed
+unfolding lettered
+lettered-other [] fs h = refl
+lettered-other (c ∷ []) fs h = absurd (h refl)
+lettered-other (c ∷ d ∷ l) fs h = refl
+
+-- the first field is not one byte
+pub lineOf-other : (l : List ℕ) → (before comma l ≡ 1 → ⊥) → lineOf l ≡ malformed
+unfolding lineOf
+lineOf-other l h =
+    rw (← field-first l) (lettered-other (firstField l) (fieldsOf l) (λ q. h (sym (length-take-le (before comma l) l (before-le comma l)) ∙ q)))
+
+-- it is
+pub lineOf-letter : (l : List ℕ) → before comma l ≡ 1 → lineOf l ≡ byLetter (getD l 0 0) (fieldsOf l)
+unfolding lineOf lettered before
+lineOf-letter [] h = absurd (omega arith)
+lineOf-letter (c ∷ l) h = rw (← field-first (c ∷ l), h)

@@ -1,0 +1,63 @@
+-- The invariant: the bytes passed are written, and the buffer has its length. What is left of the bytes falls.
+use mathlib.Core.Path.{_≡_, refl, _∙_}
+use Prim.Native.Nat.{_-_, _≤_, _<_}
+use native.Mathlib.Omega.{arith}
+use lib.ListN.{length, take}
+use lib.Seq.{take-all}
+use borrow.Author.Needs.{needs}
+use Rattle.printer.specs.Replies.{Wrote}
+use Rattle.printer.proofs.WroteLaws.{Wrote-none, Wrote-next}
+use Rattle.printer.proofs.append.Statement.{statement}
+use Rattle.printer.proofs.append.Tie as tie
+
+abbrev Inv-loop : tie.InvT-loop
+Inv-loop out₀ at bytes end₀ i₀ out end i =
+    (i ≤ length bytes) × (length out ≡ length out₀) × Wrote out₀ at (take i bytes) out end
+
+abbrev μ-loop : tie.MeasureT-loop
+μ-loop out₀ at bytes end₀ i₀ out end i = length bytes - i
+
+loop-holds : tie.Need-loop-holds Inv-loop μ-loop
+loop-holds c = (omega arith, refl, Wrote-none _ _ (omega arith))
+
+shared-slice-read-push : tie.Need-shared-slice-read-push Inv-loop μ-loop
+shared-slice-read-push c = search needs
+
+push-requires : tie.Need-push-requires Inv-loop μ-loop
+push-requires c κs = search needs
+
+add-i : tie.Need-add-i Inv-loop μ-loop
+add-i c = search needs
+
+loop-less : tie.Need-loop-less Inv-loop μ-loop
+loop-less c = search needs
+
+loop-again : tie.Need-loop-again Inv-loop μ-loop
+loop-again c =
+    let l = c .before .before .before .before .before .before in
+    let p = c .before .before .push in
+    let within : l .loop .i < length (l .before .before .before .args .bytes .now) = omega arith in
+    (omega arith, p .kept .0 ∙ l .loop .inv .1, Wrote-next _ _ within (l .loop .inv .2) (l .loop .inv .1) (p .ensures))
+
+same-length : tie.Need-same-length Inv-loop μ-loop
+same-length c = search needs
+
+returns : tie.Need-returns Inv-loop μ-loop
+returns c =
+    let passed : length (c .before .before .before .before .args .bytes .now) ≤ c .before .loop .i = omega arith in
+    rw take-all at (c .before .loop .inv .2)
+
+pub append-spec : {M : Type 1} → statement M
+append-spec =
+    tie.close
+    (tie.spec
+    Inv-loop
+    μ-loop
+    loop-holds
+    shared-slice-read-push
+    push-requires
+    add-i
+    loop-less
+    loop-again
+    same-length
+    returns)

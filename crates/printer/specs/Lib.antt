@@ -1,0 +1,2 @@
+-- A reply as text (01, "The script program").
+pub mod Replies

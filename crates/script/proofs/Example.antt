@@ -1,0 +1,23 @@
+-- The example of 01, "The script program", as a theorem about the definitions: what goes in, and what comes out.
+use mathlib.Core.Path.{_≡_, refl}
+use mathlib.Core.List.{List, [] as none, _∷_ as _then_}
+use Prim.Native.Nat.{ℕ}
+use Prim.Native.Char.{code}
+use Prim.Native.String.{String, [], _∷_}
+use Rattle.model.proofs.Computing.{machine}
+use Rattle.parser.specs.Numbers.{longer, extended, andDigits, spelledNumber}
+use Rattle.parser.specs.Lines.{onFirst, pieces, spelledBytes, numbersOf, lineNumbers, screenLine, paneLine, openLine, putLine, startLine, runLine, lookLine, pixelLine, byLetter, lettered, lineOf}
+use Rattle.printer.specs.Replies.{numeral, listed, replyText}
+use Rattle.script.specs.Desk.{made, restored, obeyed}
+use Rattle.script.specs.Scripts.{printed, answered}
+
+-- the bytes of a text
+abbrev bytes : String → List ℕ
+bytes [] = none
+bytes (c ∷ s) = code c then bytes s
+
+pub example :
+    answered (bytes "s,16,2,1\np,0,0,8,2,32\no\nw,0,0,003d010000000100\ng,0,0\nr,0,5\nl,0\nx,0,3,1\ng,1,0\n")
+    ≡ bytes "o,0\nw,0\ng,0\nr,0,1,2,0\nl,0,2,0,6,0,0,0,0\nx,0,0\ng,1\n"
+unfolding machine longer extended andDigits spelledNumber onFirst pieces spelledBytes numbersOf lineNumbers screenLine paneLine openLine putLine startLine runLine lookLine pixelLine byLetter lettered lineOf numeral listed replyText made restored obeyed printed answered
+example = refl

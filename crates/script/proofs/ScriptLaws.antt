@@ -1,0 +1,85 @@
+-- What a script prints, line after line.
+use mathlib.Core.Path.{_≡_, sym, ap, _∙_}
+use mathlib.Core.List.{List, [], _∷_, _++_, append-assoc, append-nil}
+use Prim.Native.Nat.{ℕ, suc, _+_, _-_, _≤_, _<_}
+use native.Mathlib.Omega.{arith}
+use borrow.Author.Tests.{lt-ltb, le-ltb}
+use lib.ListN.{length, take, drop, length-drop}
+use lib.Seq.{drop-drop}
+use Rattle.parser.specs.Lines.{before, lineFeed, linesOf, lineOf}
+use Rattle.parser.proofs.PieceLaws.{linesOf-next, linesOf-none}
+use Rattle.model.proofs.Decisions.{cond-true, cond-false}
+use Rattle.printer.specs.Replies.{malformedText, Wrote}
+use Rattle.printer.proofs.WroteLaws.{Wrote-then, Wrote-none}
+use Rattle.script.specs.declared.session.Session.{Session}
+use Rattle.script.specs.Desk.{Desk, desk, begun, obeyed}
+use Rattle.script.specs.Scripts.{textOf, printed, empty, mostScript, answered}
+
+-- a script with lines left: the next, and those after its end
+lines-next : (script : List ℕ) (from end : ℕ) → from < length script → end ≡ from + before lineFeed (drop from script)
+    → linesOf (drop from script) ≡ take (end - from) (drop from script) ∷ linesOf (drop (end + 1) script)
+lines-next script from end h e =
+    let some : 0 < length (drop from script) = omega (arith, length-drop from script) in
+    let count : end - from ≡ before lineFeed (drop from script) = omega arith in
+    let next : from + suc (before lineFeed (drop from script)) ≡ end + 1 = omega arith in
+    linesOf-next (drop from script) some ∙ rw (count, drop-drop, next)
+
+module _ (script screen₀ stores₀ out₀ : List ℕ) where
+  -- The lines before `from` are obeyed and their replies written: what is left prints the rest of what the whole script prints.
+  pub record Along (session : Session) (screen stores out : List ℕ) (written from : ℕ) : Type 0 where
+    pub text : List ℕ
+    pub wrote : Wrote out₀ 0 text out written
+    pub rest : text ++ printed (linesOf (drop from script)) (desk session screen stores) ≡ printed (linesOf script) (desk begun screen₀ stores₀)
+
+  -- no line
+  pub along-none : {s : Session} → s ≡ begun → Along s screen₀ stores₀ out₀ 0 0
+  along-none e =
+      record {
+        text = [];
+        wrote = Wrote-none out₀ 0 (omega arith);
+        rest = ap (λ (s : Session). printed (linesOf script) (desk s screen₀ stores₀)) e;
+      }
+
+  -- one line more
+  pub along-next : {s t : Session} {screen stores out screen′ stores′ out′ : List ℕ} {written written′ from end : ℕ}
+      → Along s screen stores out written from
+      → length out ≡ length out₀
+      → from < length script
+      → end ≡ from + before lineFeed (drop from script)
+      → desk t screen′ stores′ ≡ obeyed (lineOf (take (end - from) (drop from script))) (desk s screen stores) .desk
+      → Wrote out written (textOf (obeyed (lineOf (take (end - from) (drop from script))) (desk s screen stores) .outcome)) out′ written′
+      → Along t screen′ stores′ out′ written′ (end + 1)
+  unfolding printed
+  along-next {s} {screen} {stores} {from} {end} a same h e d w =
+      record {
+        text = _;
+        wrote = Wrote-then (a .wrote) same w;
+        rest =
+            append-assoc (a .text) _ _
+            ∙ ap (λ (e : Desk). a .text ++ (textOf (obeyed (lineOf (take (end - from) (drop from script))) (desk s screen stores) .outcome) ++ printed (linesOf (drop (end + 1) script)) e)) d
+            ∙ ap (λ (ls : List (List ℕ)). a .text ++ printed ls (desk s screen stores)) (sym (lines-next script from end h e))
+            ∙ a .rest;
+      }
+
+  -- every line
+  pub along-all : {s : Session} {screen stores out : List ℕ} {written from : ℕ} → Along s screen stores out written from → length script ≤ from
+      → take written out ≡ take (length out₀) (printed (linesOf script) (desk begun screen₀ stores₀))
+  unfolding printed
+  along-all {s} {screen} {stores} {from} a h =
+      let none : linesOf (drop from script) ≡ [] = linesOf-none (drop from script) (omega (arith, length-drop from script)) in
+      a .wrote .bytes
+      ∙ ap (take (length out₀))
+      (sym (append-nil (a .text)) ∙ ap (λ (ls : List (List ℕ)). a .text ++ printed ls (desk s screen stores)) (sym none) ∙ a .rest)
+
+-- ## The whole script
+
+-- one past the limit
+pub answered-long : (script : List ℕ) → mostScript < length script → answered script ≡ malformedText
+unfolding answered
+answered-long script h = cond-true _ _ (lt-ltb mostScript (length script) h)
+
+-- one within it, on buffers of zeros
+pub answered-lines : (script : List ℕ) → length script ≤ mostScript → {screen stores : List ℕ} → screen ≡ empty .screen → stores ≡ empty .stores
+    → printed (linesOf script) (desk begun screen stores) ≡ answered script
+unfolding answered
+answered-lines script h e f = (λ i. printed (linesOf script) (desk begun (e i) (f i))) ∙ sym (cond-false _ _ (le-ltb mostScript (length script) h))
