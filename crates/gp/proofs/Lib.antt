@@ -1,5 +1,4 @@
 -- Laws of steps and runs.
 pub mod KeepLaws
 pub mod RunningLaws
-pub mod PerformLaws
 pub mod ObeyLaws

@@ -1,10 +1,10 @@
--- `gp::perform` meets its contract, by the command: a record that a command gave, or a drawing.
+-- `perform` meets its contract, by the command: a record that a command gave, or a drawing.
 use mathlib.Core.Path.{refl}
 use Rattle.model.specs.Effects.{effectOf}
-use Rattle.gp.proofs.PerformLaws.{done-record, allowed-as, done-as, call-room, return-kept}
+use Rattle.perform.proofs.PerformLaws.{done-record, allowed-as, done-as, call-room, return-kept}
 use borrow.Author.Needs.{needs}
-use Rattle.gp.proofs.perform.Statement.{statement}
-use Rattle.gp.proofs.perform.Tie as tie
+use Rattle.perform.proofs.perform.Statement.{statement}
+use Rattle.perform.proofs.perform.Tie as tie
 
 enum-told : tie.Need-enum-told
 enum-told c = search needs

@@ -1,0 +1,2 @@
+-- Laws of a command done.
+pub mod PerformLaws
