@@ -21,6 +21,10 @@ use Rattle.raster.specs.Place.{Drawable}
 pub admitted : (s : State) (k : ℕ) {n : ℕ} → n ≡ callRefusal s k → n ≡ 0 → Admitted s k
 admitted s k e z = callRefusal-admitted s k (sym e ∙ z)
 
+-- and the store of the row that was read lies in the stores
+pub room : (s : State) (k : ℕ) {n : ℕ} → n ≡ callRefusal s k → n ≡ 0 → (r : Row) → r ≡ rowOf s k → r .start + r .len ≤ length (s .stores)
+room s k e z r q = rw q (admitted s k e z .room)
+
 -- ## A call's own check
 
 cond-zero : (t : Bool) (n : ℕ) → cond t 0 (suc n) ≡ 0 → t ≡ true
@@ -49,9 +53,9 @@ module _ (r : Row) {n : ℕ} where
       (ltb-true x (r .width) (b .0), ltb-true y (r .height) (b .1))
 
 -- so that it can be read
-pub pixel-drawable : (s : State) (k : ℕ) → Admitted s k → (x y : ℕ) {n : ℕ} → ((p : Pane) → n ≡ ownRefusal (rowOf s k) p (pixel x y)) → n ≡ 0
-    → Drawable (paneSurface (s .console .geometry) (rowOf s k)) (s .screen) x y
+pub pixel-drawable : (s : State) (k : ℕ) → Admitted s k → (r : Row) → r ≡ rowOf s k → (x y : ℕ) {n : ℕ} → ((p : Pane) → n ≡ ownRefusal r p (pixel x y)) → n ≡ 0
+    → Drawable (paneSurface (s .console .geometry) r) (s .screen) x y
 unfolding paneSurface
-pixel-drawable s k a x y e z =
-    let i = pixel-inside (rowOf s k) x y e z in
-    record { fits = admitted-fits s k a; small = omega (arith, a .placed .right, a .placed .width); column = i .0; row = i .1 }
+pixel-drawable s k a r q x y e z =
+    let i = rw q at (pixel-inside r x y e z) in
+    rw q record { fits = admitted-fits s k a; small = omega (arith, a .placed .right, a .placed .width); column = i .0; row = i .1 }

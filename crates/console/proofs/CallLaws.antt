@@ -2,18 +2,21 @@
 -- an accepted call leaves that replaces the record, the store, or nothing.
 use mathlib.Core.Path.{_≡_, refl, sym, ap, _∙_}
 use mathlib.Core.List.{List, _++_}
-use Prim.Native.Nat.{ℕ}
-use lib.ListN.{take, drop, take-append-drop}
+use Prim.Native.Nat.{ℕ, _+_, _-_}
+use native.Mathlib.Nat.{add-sub-cancel-left}
+use lib.ListN.{length, take, drop, take-append-drop}
 use lib.Seq.{set-getD}
 use borrow.Author.Tests.{eq-eqb, ne-eqb}
 use Rattle.model.specs.declared.Console.{Console}
 use Rattle.model.specs.declared.Pane.{Pane}
 use Rattle.model.specs.declared.Reply.{Reply}
+use Rattle.model.specs.declared.Reply.the-variants as reply
+use Rattle.model.specs.declared.Row.{Row}
 use Rattle.model.specs.Record.{noPane}
-use Rattle.model.specs.Calls.{State, Call, on, part, inPart, ownRefusal, Outcome, outcome, onPane, rowOf, recordOf, storeOf, setupRefusal, callRefusal, refusal, withPane, accepted, refused, exec, setUp}
+use Rattle.model.specs.Calls.{State, Call, put, on, part, inPart, ownRefusal, Outcome, outcome, onPane, rowOf, recordOf, storeOf, setupRefusal, callRefusal, refusal, withPane, accepted, refused, exec, setUp}
 use Rattle.model.proofs.Decisions.{cond-true, cond-false}
 use Rattle.console.specs.declared.Answered.{Answered}
-use Rattle.console.specs.Answers.{answer, turnedAway, withRecord}
+use Rattle.console.specs.Answers.{answer, turnedAway, withRecord, replaced}
 
 -- ## Refused
 
@@ -49,6 +52,10 @@ module _ (s : State) (number : ℕ) (call : Call) where
         → answer (r .console) (r .reply) (s .screen) (s .stores) ≡ exec s (on number call)
     exec-refused-own n r e q h = exec-refusal n r e (q ∙ sym refusal-own) h
 
+-- the call's own check, made with the row that was read
+pub own-by-row : (p : Pane) (call : Call) {n : ℕ} {r q : Row} → r ≡ q → ((p : Pane) → n ≡ ownRefusal r p call) → n ≡ ownRefusal q p call
+own-by-row p call e g = g p ∙ ap (λ (r : Row). ownRefusal r p call) e
+
 -- ## Accepted
 
 part-kept : (l : List ℕ) (at n : ℕ) → inPart l at n (part l at n) ≡ l
@@ -76,14 +83,14 @@ module _ (s : State) (number : ℕ) (call : Call) {m n : ℕ} (f : m ≡ callRef
   -- another record, all else kept
   pub exec-record : (p : Pane) (a : Reply)
       → onPane (s .console .geometry) (rowOf s number) (recordOf s number) (s .screen) (storeOf s number) call ≡ outcome a p (s .screen) (storeOf s number)
-      → (d : Console) (q : Pane) → d ≡ withRecord (s .console) number q → q ≡ p
-      → answer d a (s .screen) (s .stores) ≡ exec s (on number call)
+      → (b : Answered) (q : Pane) → b ≡ replaced (s .console) number q a → q ≡ p
+      → answer (b .console) (b .reply) (s .screen) (s .stores) ≡ exec s (on number call)
   unfolding storeOf
-  exec-record p a e d q h i =
-      exec-accepted _ e d a _ _ (h ∙ ap (withRecord (s .console) number) i) refl refl (sym (part-kept (s .stores) (rowOf s number .start) (rowOf s number .len)))
+  exec-record p a e b q h i =
+      exec-accepted _ e (b .console) (b .reply) _ _ (ap (λ (b : Answered). b .console) h ∙ ap (withRecord (s .console) number) i) (ap (λ (b : Answered). b .reply) h) refl (sym (part-kept (s .stores) (rowOf s number .start) (rowOf s number .len)))
 
   -- another store, all else kept
-  pub exec-store : (store : List ℕ) (a : Reply)
+  exec-store : (store : List ℕ) (a : Reply)
       → onPane (s .console .geometry) (rowOf s number) (recordOf s number) (s .screen) (storeOf s number) call ≡ outcome a (recordOf s number) (s .screen) store
       → (stores : List ℕ) → stores ≡ inPart (s .stores) (rowOf s number .start) (rowOf s number .len) store
       → answer (s .console) a (s .screen) stores ≡ exec s (on number call)
@@ -94,4 +101,15 @@ module _ (s : State) (number : ℕ) (call : Call) {m n : ℕ} (f : m ≡ callRef
       → onPane (s .console .geometry) (rowOf s number) (recordOf s number) (s .screen) (storeOf s number) call ≡ outcome a (recordOf s number) (s .screen) (storeOf s number)
       → (b : Reply) → b ≡ a
       → answer (s .console) b (s .screen) (s .stores) ≡ exec s (on number call)
-  exec-kept a e b q = ap (λ (b : Reply). answer (s .console) b (s .screen) (s .stores)) q ∙ exec-record (recordOf s number) a e (s .console) (recordOf s number) (sym (record-kept s number)) refl
+  unfolding storeOf
+  exec-kept a e b q = exec-accepted _ e _ b _ _ (sym (record-kept s number)) q refl (sym (part-kept (s .stores) (rowOf s number .start) (rowOf s number .len)))
+
+-- put's bytes, written into the part of the row that was read, which runs from its start up to its start plus its length
+pub exec-put : (s : State) (number a : ℕ) (bytes : List ℕ) {m n : ℕ} → m ≡ callRefusal s number → m ≡ 0
+    → (r : Row) → r ≡ rowOf s number → ((p : Pane) → n ≡ ownRefusal r p (put a bytes)) → n ≡ 0
+    → (store : List ℕ) → store ≡ inPart (part (s .stores) (r .start) (r .start + r .len - r .start)) a (length bytes) bytes
+    → answer (s .console) reply.Done (s .screen) (inPart (s .stores) (r .start) (r .start + r .len - r .start) store) ≡ exec s (on number (put a bytes))
+unfolding storeOf onPane
+exec-put s number a bytes f z r e g y store h =
+    exec-store s number (put a bytes) f z (own-by-row (recordOf s number) (put a bytes) e g) y _ reply.Done refl _
+    (rw (h, add-sub-cancel-left, e))

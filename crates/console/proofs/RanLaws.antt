@@ -1,27 +1,46 @@
--- What an accepted run leaves: the record, the screen and the store that the graphics processor left, and the reply that they give.
+-- What a run that is not refused relies on, and what it leaves: the record, the screen and the store that the graphics processor left, and the
+-- reply that they give.
 use mathlib.Core.Path.{_≡_, refl, ap, _∙_}
 use mathlib.Core.List.{List}
-use Prim.Native.Nat.{ℕ}
-use Rattle.model.specs.declared.Console.{Console}
+use Prim.Native.Nat.{ℕ, _+_, _-_}
+use native.Mathlib.Nat.{add-sub-cancel-left}
+use lib.ListN.{length}
 use Rattle.model.specs.declared.Pane.{Pane}
+use Rattle.model.specs.declared.Row.{Row}
 use Rattle.model.specs.declared.Reply.the-variants as reply
 use Rattle.model.specs.Runs.{runs}
-use Rattle.model.specs.Calls.{State, run, on, inPart, ownRefusal, onPane, ran, rowOf, recordOf, storeOf, callRefusal, exec}
-use Rattle.drawing.specs.Stepping.{Left, left, leftOf}
-use Rattle.console.specs.Answers.{answer, withRecord}
-use Rattle.console.proofs.CallLaws.{exec-accepted}
+use Rattle.model.specs.Calls.{State, run, on, part, inPart, ownRefusal, onPane, ran, rowOf, recordOf, storeOf, callRefusal, exec}
+use Rattle.drawing.specs.Stepping.{Sound, Left, left, leftOf}
+use Rattle.console.specs.declared.Answered.{Answered}
+use Rattle.console.specs.Answers.{answer, turnedAway, withRecord, replaced}
+use Rattle.console.proofs.AcceptedLaws.{admitted}
+use Rattle.console.proofs.CallLaws.{exec-refused-own, exec-accepted}
 
-pub exec-ran : (s : State) (number budget : ℕ) {m n : ℕ} → m ≡ callRefusal s number → m ≡ 0 → n ≡ ownRefusal (rowOf s number) (recordOf s number) (run budget) → n ≡ 0
-    → (count : ℕ) (q : Pane) (screen store : List ℕ)
-    → left count q screen store ≡ leftOf (runs (s .console .geometry) (rowOf s number) budget (recordOf s number) (s .screen) (storeOf s number))
-    → (d : Console) → d ≡ withRecord (s .console) number q
-    → (stores : List ℕ) → stores ≡ inPart (s .stores) (rowOf s number .start) (rowOf s number .len) store
-    → answer d (reply.Ran (record { commands = count; status = q .progress .status; fault = q .progress .fault })) screen stores ≡ exec s (on number (run budget))
-unfolding onPane
-exec-ran s number budget f z g y count q screen store e d h stores v =
-    exec-accepted s number (run budget) f z g y
-    (ran (runs (s .console .geometry) (rowOf s number) budget (recordOf s number) (s .screen) (storeOf s number))) refl d _ screen stores
-    (h ∙ ap (λ (l : Left). withRecord (s .console) number (l .pane)) e)
-    (ap (λ (l : Left). reply.Ran (record { commands = l .count; status = l .pane .progress .status; fault = l .pane .progress .fault })) e)
-    (ap (λ (l : Left). l .screen) e)
-    (v ∙ ap (λ (l : Left). inPart (s .stores) (rowOf s number .start) (rowOf s number .len) (l .store)) e)
+-- a pane by the row and the record that were read: the store is lent from the row's start up to its start plus its length
+module _ (s : State) (number budget : ℕ) {m : ℕ} (f : m ≡ callRefusal s number) (z : m ≡ 0) (r : Row) (e : r ≡ rowOf s number) (p : Pane) (i : p ≡ recordOf s number) where
+  pub sound : Sound (s .console .geometry) r p (length (s .screen)) (length (part (s .stores) (r .start) (r .start + r .len - r .start)))
+  unfolding storeOf
+  sound = let h = admitted s number f z in rw (add-sub-cancel-left, e, i) record { placed = h .placed; good = h .good }
+
+  own-by-record : {n : ℕ} → ((r : Row) (budget : ℕ) → n ≡ ownRefusal r p (run budget)) → n ≡ ownRefusal (rowOf s number) (recordOf s number) (run budget)
+  own-by-record g = rw i at (g (rowOf s number) budget)
+
+  pub exec-idle : (n : ℕ) (a : Answered) → a ≡ turnedAway (s .console) n → ((r : Row) (budget : ℕ) → n ≡ ownRefusal r p (run budget)) → (n ≡ 0 → ⊥)
+      → answer (a .console) (a .reply) (s .screen) (s .stores) ≡ exec s (on number (run budget))
+  exec-idle n a h g y = exec-refused-own s number (run budget) f z n a h (own-by-record g) y
+
+  pub exec-ran : {n : ℕ} → ((r : Row) (budget : ℕ) → n ≡ ownRefusal r p (run budget)) → n ≡ 0
+      → (count : ℕ) (q : Pane) (screen store : List ℕ)
+      → left count q screen store ≡ leftOf (runs (s .console .geometry) r budget p (s .screen) (part (s .stores) (r .start) (r .start + r .len - r .start)))
+      → (b : Answered) → b ≡ replaced (s .console) number q (reply.Ran (record { commands = count; status = q .progress .status; fault = q .progress .fault }))
+      → answer (b .console) (b .reply) screen (inPart (s .stores) (r .start) (r .start + r .len - r .start) store)
+      ≡ exec s (on number (run budget))
+  unfolding storeOf onPane
+  exec-ran g y count q screen store h b k =
+      let h' : left count q screen store ≡ leftOf (runs (s .console .geometry) (rowOf s number) budget (recordOf s number) (s .screen) (storeOf s number)) = rw (add-sub-cancel-left, e, i) at h in
+      exec-accepted s number (run budget) f z (own-by-record g) y
+      (ran (runs (s .console .geometry) (rowOf s number) budget (recordOf s number) (s .screen) (storeOf s number))) refl (b .console) (b .reply) screen _
+      (ap (λ (b : Answered). b .console) k ∙ ap (λ (l : Left). withRecord (s .console) number (l .pane)) h')
+      (ap (λ (b : Answered). b .reply) k ∙ ap (λ (l : Left). reply.Ran (record { commands = l .count; status = l .pane .progress .status; fault = l .pane .progress .fault })) h')
+      (ap (λ (l : Left). l .screen) h')
+      (rw (add-sub-cancel-left, e) (ap (λ (l : Left). inPart (s .stores) (rowOf s number .start) (rowOf s number .len) (l .store)) h'))

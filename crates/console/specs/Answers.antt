@@ -24,3 +24,7 @@ turnedAway console n = record { console = console; reply = reply.Refused n }
 -- the record with pane k's replaced
 abbrev pub withRecord : Console → ℕ → Pane → Console
 withRecord c k p = record { geometry = c .geometry; count = c .count; rows = c .rows; panes = set (c .panes) k p }
+
+-- the same, with a reply
+abbrev pub replaced : Console → ℕ → Pane → Reply → Answered
+replaced c k p a = record { console = withRecord c k p; reply = a }

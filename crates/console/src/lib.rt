@@ -4,7 +4,7 @@
 use model::Console;
 use model::Reply;
 
-mod record; // record.rt: what the calls have in common: a refusal, a pane record replaced, a fresh one
+mod record; // record.rt: what the calls have in common: a refusal, a pane record replaced, a fresh one, a row or a record read
 mod calls; // calls.rt: one module a call
 
 pub use calls::clear::clear;

@@ -1,4 +1,4 @@
-// What the calls have in common: a refusal, a pane record replaced, a fresh one.
+// What the calls have in common: a refusal, a pane record replaced, a fresh one, a row or a record read.
 use crate::Answered;
 use model::Bitmap;
 use model::Clip;
@@ -11,11 +11,13 @@ use model::Point;
 use model::Progress;
 use model::Reply;
 use model::Returns;
+use model::Row;
 use model::Text;
 ghost use mathlib.Core.Path.{_≡_};
 ghost use Prim.Native.Nat.{_<_};
 ghost use Rattle.model.specs.Record.{fresh};
-ghost use Rattle.console.specs.Answers.{turnedAway, withRecord};
+ghost use Rattle.model.specs.Setup.{rowAt, paneAt};
+ghost use Rattle.console.specs.Answers.{turnedAway, replaced};
 
 // An address, or bytes from it on, past the end of the store.
 pub(crate) const REFUSE_END: u8 = 2;
@@ -33,14 +35,17 @@ pub(crate) fn refused(console: Console, number: u8) -> Answered
     }
 }
 
-// The record with pane k's replaced, all else kept.
-pub(crate) fn with_record(console: Console, k: usize, pane: Pane) -> Console
+// The record with pane k's replaced, all else kept, and a reply.
+pub(crate) fn with_record(console: Console, k: usize, pane: Pane, reply: Reply) -> Answered
     requires { ⌜ k < 8 ⌝ }
-    ensures { λ r. ⌜ r ≡ withRecord console k pane ⌝ }
+    ensures { λ r. ⌜ r ≡ replaced console k pane reply ⌝ }
 {
     let mut next = console;
     next.panes[k] = pane;
-    next
+    Answered {
+        console: next,
+        reply,
+    }
 }
 
 // The record of a pane that has done nothing.
@@ -85,4 +90,20 @@ pub fn fresh() -> Pane
             count: 0,
         },
     }
+}
+
+// The row of pane k.
+pub(crate) fn row_at(console: Console, k: usize) -> Row
+    requires { ⌜ k < 8 ⌝ }
+    ensures { λ r. ⌜ r ≡ rowAt (console .rows) k ⌝ }
+{
+    console.rows[k]
+}
+
+// The record of pane k.
+pub(crate) fn record_at(console: Console, k: usize) -> Pane
+    requires { ⌜ k < 8 ⌝ }
+    ensures { λ r. ⌜ r ≡ paneAt (console .panes) k ⌝ }
+{
+    console.panes[k]
 }

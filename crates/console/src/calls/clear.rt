@@ -20,9 +20,5 @@ pub fn clear(screen: &[u8], stores: &[u8], console: Console, number: u32) -> Ans
         return refused(console, first);
     }
     let k = number as usize;
-    let next = with_record(console, k, fresh());
-    Answered {
-        console: next,
-        reply: Reply::Done,
-    }
+    with_record(console, k, fresh(), Reply::Done)
 }

@@ -1,5 +1,6 @@
 // Look: what a pane shows of itself.
 use crate::Answered;
+use crate::record::record_at;
 use crate::record::refused;
 use checks::refusal::call_refusal;
 use model::Console;
@@ -36,7 +37,7 @@ pub fn look(screen: &[u8], stores: &[u8], console: Console, number: u32) -> Answ
         return refused(console, first);
     }
     let k = number as usize;
-    let pane = console.panes[k];
+    let pane = record_at(console, k);
     Answered {
         console,
         reply: shown(pane),

@@ -2,6 +2,7 @@
 use crate::Answered;
 use crate::record::REFUSE_END;
 use crate::record::refused;
+use crate::record::row_at;
 use checks::refusal::call_refusal;
 use checks::table::refuse;
 use model::Console;
@@ -29,7 +30,7 @@ pub fn peek(screen: &[u8], stores: &[u8], console: Console, number: u32, address
         return refused(console, first);
     }
     let k = number as usize;
-    let row = console.rows[k];
+    let row = row_at(console, k);
     let own = peek_refusal(row, address);
     if own != 0 {
         return refused(console, own);

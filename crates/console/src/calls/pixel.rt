@@ -1,6 +1,7 @@
 // Pixel: the value of one of a pane's pixels.
 use crate::Answered;
 use crate::record::refused;
+use crate::record::row_at;
 use checks::bitmap::row_words;
 use checks::refusal::call_refusal;
 use checks::table::refuse;
@@ -65,13 +66,12 @@ pub fn pixel(
         return refused(console, first);
     }
     let k = number as usize;
-    let row = console.rows[k];
+    let row = row_at(console, k);
     let own = pixel_refusal(row, x, y);
     if own != 0 {
         return refused(console, own);
     }
-    let g = console.geometry;
-    let surface = pane_surface(g, row);
+    let surface = pane_surface(console.geometry, row);
     let value = raster::pixel(screen, surface, x as usize, y as usize);
     Answered {
         console,

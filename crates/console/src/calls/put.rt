@@ -2,6 +2,7 @@
 use crate::Answered;
 use crate::record::REFUSE_END;
 use crate::record::refused;
+use crate::record::row_at;
 use checks::refusal::call_refusal;
 use checks::table::refuse;
 use model::Console;
@@ -54,7 +55,7 @@ pub fn put(
         return refused(console, first);
     }
     let k = number as usize;
-    let row = console.rows[k];
+    let row = row_at(console, k);
     let own = put_refusal(row, address, bytes);
     if own != 0 {
         return refused(console, own);

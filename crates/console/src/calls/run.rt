@@ -1,6 +1,8 @@
 // Run: commands of a pane's list done, while its status is 1 and budget is left.
 use crate::Answered;
+use crate::record::record_at;
 use crate::record::refused;
+use crate::record::row_at;
 use crate::record::with_record;
 use checks::refusal::call_refusal;
 use model::Console;
@@ -43,24 +45,26 @@ pub fn run(
         return refused(console, first);
     }
     let k = number as usize;
-    let row = console.rows[k];
-    let pane = console.panes[k];
+    let row = row_at(console, k);
+    let pane = record_at(console, k);
     let own = run_refusal(pane);
     if own != 0 {
         return refused(console, own);
     }
-    let geometry = console.geometry;
     let start = row.start as usize;
     let end = start + row.len as usize;
-    let s = gp::run(screen, &mut stores[start..end], geometry, row, pane, budget);
-    let after = s.pane;
-    let next = with_record(console, k, after);
-    Answered {
-        console: next,
-        reply: Reply::Ran(Ran {
-            commands: s.count,
-            status: after.progress.status,
-            fault: after.progress.fault,
-        }),
-    }
+    let s = gp::run(
+        screen,
+        &mut stores[start..end],
+        console.geometry,
+        row,
+        pane,
+        budget,
+    );
+    let reply = Reply::Ran(Ran {
+        commands: s.count,
+        status: s.pane.progress.status,
+        fault: s.pane.progress.fault,
+    });
+    with_record(console, k, s.pane, reply)
 }

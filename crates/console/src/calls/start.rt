@@ -1,7 +1,9 @@
 // Start: a pane set to run from an address of its store.
 use crate::Answered;
 use crate::record::REFUSE_END;
+use crate::record::record_at;
 use crate::record::refused;
+use crate::record::row_at;
 use crate::record::with_record;
 use checks::refusal::call_refusal;
 use checks::table::refuse;
@@ -58,15 +60,11 @@ pub fn start(screen: &[u8], stores: &[u8], console: Console, number: u32, addres
         return refused(console, first);
     }
     let k = number as usize;
-    let row = console.rows[k];
+    let row = row_at(console, k);
     let own = start_refusal(row, address);
     if own != 0 {
         return refused(console, own);
     }
-    let pane = console.panes[k];
-    let next = with_record(console, k, started(pane, address));
-    Answered {
-        console: next,
-        reply: Reply::Done,
-    }
+    let pane = record_at(console, k);
+    with_record(console, k, started(pane, address), Reply::Done)
 }

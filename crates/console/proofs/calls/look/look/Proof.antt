@@ -1,6 +1,6 @@
 -- Look shows the record of the pane and keeps everything.
-use mathlib.Core.Path.{refl}
-use Rattle.model.specs.Calls.{recordOf, ownRefusal, onPane}
+use mathlib.Core.Path.{refl, ap, _∙_}
+use Rattle.model.specs.Calls.{recordOf, ownRefusal, shown, onPane}
 use Rattle.console.proofs.CallLaws.{exec-refused, exec-kept}
 use Rattle.console.proofs.AcceptedLaws.{admitted}
 use borrow.Author.Needs.{needs}
@@ -16,11 +16,8 @@ refused-requires c κs = search needs
 returns : tie.Need-returns
 returns c = exec-refused _ _ _ _ _ (c .refused .ensures) (c .before .before .call-refusal .ensures) (c .before .if1 .taken)
 
-mul-pane : tie.Need-mul-pane
-mul-pane c = search needs
-
-element-copy-out-pane : tie.Need-element-copy-out-pane
-element-copy-out-pane c = let i = admitted _ _ (c .before .call-refusal .ensures) (c .if1 .left) .index in search needs
+record-at-requires : tie.Need-record-at-requires
+record-at-requires c κs = admitted _ _ (c .before .call-refusal .ensures) (c .if1 .left) .index
 
 shown-requires : tie.Need-shown-requires
 shown-requires c κs = search needs
@@ -29,7 +26,7 @@ returns-2 : tie.Need-returns-2
 unfolding recordOf ownRefusal onPane
 returns-2 c =
     let d = c .before .before in
-    exec-kept _ _ _ (d .before .call-refusal .ensures) (d .if1 .left) refl refl _ refl _ (c .shown .ensures)
+    exec-kept _ _ _ (d .before .call-refusal .ensures) (d .if1 .left) refl refl _ refl _ (c .shown .ensures ∙ ap shown (c .before .record-at .ensures))
 
 pub look-spec : {M : Type 1} → statement M
 look-spec =
@@ -38,7 +35,6 @@ look-spec =
     call-refusal-requires
     refused-requires
     returns
-    mul-pane
-    element-copy-out-pane
+    record-at-requires
     shown-requires
     returns-2)

@@ -4,8 +4,8 @@ use native.Mathlib.Omega.{arith}
 use Rattle.model.specs.Calls.{rowOf, recordOf, storeOf, onPane}
 use Rattle.model.specs.declared.Reply.the-variants as reply
 use Rattle.model.proofs.PartLaws.{part-at}
-use Rattle.console.proofs.CallLaws.{exec-refused, exec-refused-own, exec-kept}
-use Rattle.console.proofs.AcceptedLaws.{admitted, peek-below}
+use Rattle.console.proofs.CallLaws.{exec-refused, exec-refused-own, own-by-row, exec-kept}
+use Rattle.console.proofs.AcceptedLaws.{admitted, room, peek-below}
 use borrow.Author.Needs.{needs}
 use Rattle.console.proofs.calls.peek.peek.Statement.{statement}
 use Rattle.console.proofs.calls.peek.peek.Tie as tie
@@ -19,11 +19,8 @@ refused-requires c κs = search needs
 returns : tie.Need-returns
 returns c = exec-refused _ _ _ _ _ (c .refused .ensures) (c .before .before .call-refusal .ensures) (c .before .if1 .taken)
 
-mul-row : tie.Need-mul-row
-mul-row c = search needs
-
-element-copy-out-row : tie.Need-element-copy-out-row
-element-copy-out-row c = let i = admitted _ _ (c .before .call-refusal .ensures) (c .if1 .left) .index in search needs
+row-at-requires : tie.Need-row-at-requires
+row-at-requires c κs = admitted _ _ (c .before .call-refusal .ensures) (c .if1 .left) .index
 
 peek-refusal-requires : tie.Need-peek-refusal-requires
 peek-refusal-requires c κs = search needs
@@ -35,8 +32,9 @@ returns-2 : tie.Need-returns-2
 unfolding rowOf recordOf
 returns-2 c =
     let d = c .before .before .before .before in
+    let w = c .before .before in
     exec-refused-own _ _ _ (d .before .call-refusal .ensures) (d .if1 .left) _ _
-    (c .refused2 .ensures) (c .before .before .peek-refusal .ensures _) (c .before .if2 .taken)
+    (c .refused2 .ensures) (own-by-row _ _ (w .before .row-at .ensures) (w .peek-refusal .ensures)) (c .before .if2 .taken)
 
 cast-at : tie.Need-cast-at
 cast-at c = search needs
@@ -49,7 +47,7 @@ unfolding rowOf
 shared-slice-read-value c =
     let w = c .before .before in
     let d = w .before .before .before in
-    let r = admitted _ _ (d .before .call-refusal .ensures) (d .if1 .left) .room in
+    let r = room _ _ (d .before .call-refusal .ensures) (d .if1 .left) _ (w .before .before .row-at .ensures) in
     let l = peek-below _ _ (w .before .peek-refusal .ensures) (w .if2 .left) in
     omega arith
 
@@ -59,7 +57,9 @@ returns-3 c =
     let w = c .before .before in
     let d = w .before .before .before in
     let l = peek-below _ _ (w .before .peek-refusal .ensures) (w .if2 .left) in
-    exec-kept _ _ _ (d .before .call-refusal .ensures) (d .if1 .left) (w .before .peek-refusal .ensures _) (w .if2 .left) _ refl _ (ap reply.Value (sym (part-at _ _ _ _ l)))
+    let e = w .before .before .row-at .ensures in
+    exec-kept _ _ _ (d .before .call-refusal .ensures) (d .if1 .left) (own-by-row _ _ e (w .before .peek-refusal .ensures)) (w .if2 .left) _ refl _
+    (rw e (ap reply.Value (sym (part-at _ _ _ _ (rw e at l)))))
 
 pub peek-spec : {M : Type 1} → statement M
 peek-spec =
@@ -68,8 +68,7 @@ peek-spec =
     call-refusal-requires
     refused-requires
     returns
-    mul-row
-    element-copy-out-row
+    row-at-requires
     peek-refusal-requires
     refused-requires-2
     returns-2

@@ -3,7 +3,7 @@ use mathlib.Core.Path.{refl, ap}
 use Rattle.model.specs.Calls.{rowOf, recordOf, onPane}
 use Rattle.model.specs.declared.Reply.the-variants as reply
 use Rattle.checks.proofs.SizeLaws.{isDepth-known}
-use Rattle.console.proofs.CallLaws.{exec-refused, exec-refused-own, exec-kept}
+use Rattle.console.proofs.CallLaws.{exec-refused, exec-refused-own, own-by-row, exec-kept}
 use Rattle.console.proofs.AcceptedLaws.{admitted, pixel-drawable}
 use borrow.Author.Needs.{needs}
 use Rattle.console.proofs.calls.pixel.pixel.Statement.{statement}
@@ -18,11 +18,8 @@ refused-requires c κs = search needs
 returns : tie.Need-returns
 returns c = exec-refused _ _ _ _ _ (c .refused .ensures) (c .before .before .call-refusal .ensures) (c .before .if1 .taken)
 
-mul-row : tie.Need-mul-row
-mul-row c = search needs
-
-element-copy-out-row : tie.Need-element-copy-out-row
-element-copy-out-row c = let i = admitted _ _ (c .before .call-refusal .ensures) (c .if1 .left) .index in search needs
+row-at-requires : tie.Need-row-at-requires
+row-at-requires c κs = admitted _ _ (c .before .call-refusal .ensures) (c .if1 .left) .index
 
 pixel-refusal-requires : tie.Need-pixel-refusal-requires
 pixel-refusal-requires c κs = search needs
@@ -34,30 +31,32 @@ returns-2 : tie.Need-returns-2
 unfolding rowOf recordOf
 returns-2 c =
     let d = c .before .before .before .before in
+    let w = c .before .before in
     exec-refused-own _ _ _ (d .before .call-refusal .ensures) (d .if1 .left) _ _
-    (c .refused2 .ensures) (c .before .before .pixel-refusal .ensures _) (c .before .if2 .taken)
+    (c .refused2 .ensures) (own-by-row _ _ (w .before .row-at .ensures) (w .pixel-refusal .ensures)) (c .before .if2 .taken)
 
 pane-surface-requires : tie.Need-pane-surface-requires
 pane-surface-requires c κs =
-    let d = c .before .before .before .before in
+    let d = c .before .before .before in
     let p = admitted _ _ (d .before .call-refusal .ensures) (d .if1 .left) .placed in
     (p .width, isDepth-known _ (p .depth) .most)
 
 pixel-requires : tie.Need-pixel-requires
 unfolding rowOf
 pixel-requires c κs =
-    let w = c .before .before in
+    let w = c .before in
     let d = w .before .before .before in
     rw (c .pane-surface .ensures)
-    (pixel-drawable _ _ (admitted _ _ (d .before .call-refusal .ensures) (d .if1 .left)) _ _ (w .before .pixel-refusal .ensures) (w .if2 .left))
+    (pixel-drawable _ _ (admitted _ _ (d .before .call-refusal .ensures) (d .if1 .left)) _ (w .before .before .row-at .ensures) _ _ (w .before .pixel-refusal .ensures) (w .if2 .left))
 
 returns-3 : tie.Need-returns-3
 unfolding rowOf recordOf onPane
 returns-3 c =
-    let w = c .before .before .before in
+    let w = c .before .before in
     let d = w .before .before .before in
-    exec-kept _ _ _ (d .before .call-refusal .ensures) (d .if1 .left) (w .before .pixel-refusal .ensures _) (w .if2 .left) _ refl _
-    (ap reply.Value (rw (c .before .pane-surface .ensures) at (c .pixel .ensures)))
+    let e = w .before .before .row-at .ensures in
+    exec-kept _ _ _ (d .before .call-refusal .ensures) (d .if1 .left) (own-by-row _ _ e (w .before .pixel-refusal .ensures)) (w .if2 .left) _ refl _
+    (ap reply.Value (rw (c .before .pane-surface .ensures, e) at (c .pixel .ensures)))
 
 pub pixel-spec : {M : Type 1} → statement M
 pixel-spec =
@@ -66,8 +65,7 @@ pixel-spec =
     call-refusal-requires
     refused-requires
     returns
-    mul-row
-    element-copy-out-row
+    row-at-requires
     pixel-refusal-requires
     refused-requires-2
     returns-2

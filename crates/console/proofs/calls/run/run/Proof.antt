@@ -1,10 +1,9 @@
 -- Run lends the screen and the pane's part of the stores on, and replaces the pane's record by the one that the run left.
-use native.Mathlib.Nat.{add-sub-cancel-left}
 use borrow.Author.Needs.{needs}
-use Rattle.model.specs.Calls.{rowOf, recordOf, storeOf, part, inPart}
-use Rattle.console.proofs.CallLaws.{exec-refused, exec-refused-own}
-use Rattle.console.proofs.RanLaws.{exec-ran}
-use Rattle.console.proofs.AcceptedLaws.{admitted}
+use Rattle.model.specs.Calls.{rowOf, recordOf, part, inPart}
+use Rattle.console.proofs.CallLaws.{exec-refused}
+use Rattle.console.proofs.RanLaws.{sound, exec-idle, exec-ran}
+use Rattle.console.proofs.AcceptedLaws.{admitted, room}
 use Rattle.console.proofs.calls.run.run.Statement.{statement}
 use Rattle.console.proofs.calls.run.run.Tie as tie
 
@@ -23,17 +22,11 @@ same-length-2 c = search needs
 returns : tie.Need-returns
 returns c = exec-refused _ _ _ _ _ (c .refused .ensures) (c .before .before .call-refusal .ensures) (c .before .if1 .taken)
 
-mul-row : tie.Need-mul-row
-mul-row c = search needs
+row-at-requires : tie.Need-row-at-requires
+row-at-requires c κs = admitted _ _ (c .before .call-refusal .ensures) (c .if1 .left) .index
 
-element-copy-out-row : tie.Need-element-copy-out-row
-element-copy-out-row c = let i = admitted _ _ (c .before .call-refusal .ensures) (c .if1 .left) .index in search needs
-
-mul-pane : tie.Need-mul-pane
-mul-pane c = search needs
-
-element-copy-out-pane : tie.Need-element-copy-out-pane
-element-copy-out-pane c = let i = admitted _ _ (c .before .before .call-refusal .ensures) (c .before .if1 .left) .index in search needs
+record-at-requires : tie.Need-record-at-requires
+record-at-requires c κs = admitted _ _ (c .before .before .call-refusal .ensures) (c .before .if1 .left) .index
 
 run-refusal-requires : tie.Need-run-refusal-requires
 run-refusal-requires c κs = search needs
@@ -50,9 +43,11 @@ same-length-4 c = search needs
 returns-2 : tie.Need-returns-2
 unfolding rowOf recordOf
 returns-2 c =
-    let d = c .before .before .before .before .before in
-    exec-refused-own _ _ _ (d .before .call-refusal .ensures) (d .if1 .left) _ _
-    (c .refused2 .ensures) (c .before .before .run-refusal .ensures _ _) (c .before .if2 .taken)
+    let p = c .before .before .before in
+    let r = p .before in
+    let d = r .before in
+    exec-idle _ _ _ (d .before .call-refusal .ensures) (d .if1 .left) _ (r .row-at .ensures) _ (p .record-at .ensures) _ _
+    (c .refused2 .ensures) (c .before .before .run-refusal .ensures) (c .before .if2 .taken)
 
 cast-start : tie.Need-cast-start
 cast-start c = search needs
@@ -72,20 +67,21 @@ part-run-start c = search needs
 part-run-end : tie.Need-part-run-end
 unfolding rowOf
 part-run-end c =
-    let d = c .before .before .before .before .before .before .before .before in
-    let r = admitted _ _ (d .before .call-refusal .ensures) (d .if1 .left) .room in
-    search needs
+    let r = c .before .before .before .before .before .before in
+    let d = r .before in
+    room _ _ (d .before .call-refusal .ensures) (d .if1 .left) _ (r .row-at .ensures)
 
 run-requires : tie.Need-run-requires
-unfolding rowOf recordOf storeOf part
+unfolding rowOf recordOf part
 run-requires c κs =
-    let d = c .before .before .before .before .before .before .before .before .before in
-    let h = admitted _ _ (d .before .call-refusal .ensures) (d .if1 .left) in
-    record { placed = rw add-sub-cancel-left (h .placed); good = h .good }
+    let p = c .before .before .before .before .before .before in
+    let r = p .before in
+    let d = r .before in
+    sound _ _ 0 (d .before .call-refusal .ensures) (d .if1 .left) _ (r .row-at .ensures) _ (p .record-at .ensures)
 
 with-record-requires : tie.Need-with-record-requires
 with-record-requires c κs =
-    let d = c .before .before .before .before .before .before .before .before .before .before .before .before .before .before .before in
+    let d = c .before .before .before .before .before .before .before .before .before .before .before .before .before in
     admitted _ _ (d .before .call-refusal .ensures) (d .if1 .left) .index
 
 same-length-5 : tie.Need-same-length-5
@@ -95,14 +91,16 @@ same-length-6 : tie.Need-same-length-6
 same-length-6 c = search needs
 
 returns-3 : tie.Need-returns-3
-unfolding rowOf recordOf storeOf part inPart
+unfolding rowOf recordOf part inPart
 returns-3 c =
-    let ran = c .before .before .before .before .before .before in
-    let w = ran .before .before .before .before .before .before in
-    let d = w .before .before .before .before in
-    exec-ran _ _ _ (d .before .call-refusal .ensures) (d .if1 .left) (w .before .run-refusal .ensures _ _) (w .if2 .left)
-    (ran .run .result .count) (ran .run .result .pane) _ _
-    (simp add-sub-cancel-left at (ran .run .ensures)) _ (c .with-record .ensures) _ (simp add-sub-cancel-left)
+    let ran = c .before .before .before .before .before in
+    let w = ran .before .before .before .before .before in
+    let p = w .before .before in
+    let r = p .before in
+    let d = r .before in
+    exec-ran _ _ _ (d .before .call-refusal .ensures) (d .if1 .left) _ (r .row-at .ensures) _ (p .record-at .ensures)
+    (w .before .run-refusal .ensures) (w .if2 .left)
+    (ran .run .result .count) (ran .run .result .pane) _ _ (ran .run .ensures) _ (c .with-record .ensures)
 
 pub run-spec : {M : Type 1} → statement M
 run-spec =
@@ -113,10 +111,8 @@ run-spec =
     same-length
     same-length-2
     returns
-    mul-row
-    element-copy-out-row
-    mul-pane
-    element-copy-out-pane
+    row-at-requires
+    record-at-requires
     run-refusal-requires
     refused-requires-2
     same-length-3

@@ -1,7 +1,7 @@
 -- Start replaces the record of the pane, and keeps everything else.
 use mathlib.Core.Path.{refl}
 use Rattle.model.specs.Calls.{rowOf, recordOf, onPane}
-use Rattle.console.proofs.CallLaws.{exec-refused, exec-refused-own, exec-record}
+use Rattle.console.proofs.CallLaws.{exec-refused, exec-refused-own, own-by-row, exec-record}
 use Rattle.console.proofs.AcceptedLaws.{admitted}
 use borrow.Author.Needs.{needs}
 use Rattle.console.proofs.calls.start.start.Statement.{statement}
@@ -16,11 +16,8 @@ refused-requires c κs = search needs
 returns : tie.Need-returns
 returns c = exec-refused _ _ _ _ _ (c .refused .ensures) (c .before .before .call-refusal .ensures) (c .before .if1 .taken)
 
-mul-row : tie.Need-mul-row
-mul-row c = search needs
-
-element-copy-out-row : tie.Need-element-copy-out-row
-element-copy-out-row c = let i = admitted _ _ (c .before .call-refusal .ensures) (c .if1 .left) .index in search needs
+row-at-requires : tie.Need-row-at-requires
+row-at-requires c κs = admitted _ _ (c .before .call-refusal .ensures) (c .if1 .left) .index
 
 start-refusal-requires : tie.Need-start-refusal-requires
 start-refusal-requires c κs = search needs
@@ -32,17 +29,14 @@ returns-2 : tie.Need-returns-2
 unfolding rowOf recordOf
 returns-2 c =
     let d = c .before .before .before .before in
+    let w = c .before .before in
     exec-refused-own _ _ _ (d .before .call-refusal .ensures) (d .if1 .left) _ _
-    (c .refused2 .ensures) (c .before .before .start-refusal .ensures _) (c .before .if2 .taken)
+    (c .refused2 .ensures) (own-by-row _ _ (w .before .row-at .ensures) (w .start-refusal .ensures)) (c .before .if2 .taken)
 
-mul-pane : tie.Need-mul-pane
-mul-pane c = search needs
-
-element-copy-out-pane : tie.Need-element-copy-out-pane
-element-copy-out-pane c =
+record-at-requires : tie.Need-record-at-requires
+record-at-requires c κs =
     let d = c .before .before .before in
-    let i = admitted _ _ (d .before .call-refusal .ensures) (d .if1 .left) .index in
-    search needs
+    admitted _ _ (d .before .call-refusal .ensures) (d .if1 .left) .index
 
 started-requires : tie.Need-started-requires
 started-requires c κs = search needs
@@ -58,7 +52,8 @@ unfolding rowOf recordOf onPane
 returns-3 c =
     let w = c .before .before .before in
     let d = w .before .before .before in
-    exec-record _ _ _ (d .before .call-refusal .ensures) (d .if1 .left) (w .before .start-refusal .ensures _) (w .if2 .left) _ _ refl _ _ (c .with-record .ensures) (c .before .started .ensures)
+    exec-record _ _ _ (d .before .call-refusal .ensures) (d .if1 .left) (own-by-row _ _ (w .before .before .row-at .ensures) (w .before .start-refusal .ensures)) (w .if2 .left) _ _ refl _ _
+    (c .with-record .ensures) (rw (c .before .before .record-at .ensures) at (c .before .started .ensures))
 
 pub start-spec : {M : Type 1} → statement M
 start-spec =
@@ -67,13 +62,11 @@ start-spec =
     call-refusal-requires
     refused-requires
     returns
-    mul-row
-    element-copy-out-row
+    row-at-requires
     start-refusal-requires
     refused-requires-2
     returns-2
-    mul-pane
-    element-copy-out-pane
+    record-at-requires
     started-requires
     with-record-requires
     returns-3)
