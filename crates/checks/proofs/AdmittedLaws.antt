@@ -16,10 +16,11 @@ use Rattle.model.proofs.Decisions.{split, either-false, cond-none, cond-true, c
 use Rattle.model.proofs.SetupLaws.{any-below}
 use Rattle.model.proofs.PixelLaws.{Fits}
 use Rattle.model.proofs.PartLaws.{length-part}
-use Rattle.checks.specs.Sizes.{Sized}
+use Rattle.tables.specs.Sizes.{Sized}
 use Rattle.checks.specs.Admitted.{Admitted}
-use Rattle.checks.proofs.SizeLaws.{even-of, geometryBad-sized}
-use Rattle.checks.proofs.BitmapLaws.{pane-fits}
+use Rattle.bitmaps.proofs.DepthLaws.{even-of}
+use Rattle.tables.proofs.SizeLaws.{geometryBad-sized}
+use Rattle.bitmaps.proofs.BitmapLaws.{pane-fits}
 use Rattle.checks.proofs.GoodLaws.{paneBad-good}
 
 -- ## One row

@@ -24,7 +24,7 @@ use Rattle.model.specs.Setup.{progressBad, baseBad, fontBad, paneBad}
 use Rattle.model.specs.Calls.{started}
 use Rattle.model.proofs.Decisions.{split, either-false}
 use Rattle.checks.specs.Good.{GoodProgress, Good}
-use Rattle.checks.proofs.SizeLaws.{even-of}
+use Rattle.bitmaps.proofs.DepthLaws.{even-of}
 
 -- ## Refusal 12's tests
 

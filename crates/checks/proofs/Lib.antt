@@ -1,6 +1,3 @@
--- Laws of the checks, and what a call may rely on once nothing is refused.
-pub mod RangeLaws
-pub mod SizeLaws
-pub mod BitmapLaws
+-- Laws of good records, and what a call may rely on once nothing is refused.
 pub mod GoodLaws
 pub mod AdmittedLaws

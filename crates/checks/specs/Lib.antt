@@ -1,4 +1,3 @@
--- What the checks' contracts cite beside paper 01's definitions, and what a call may rely on once nothing is refused.
-pub mod Sizes
+-- What a call may rely on once nothing is refused.
 pub mod Good
 pub mod Admitted

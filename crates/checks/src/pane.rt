@@ -1,6 +1,6 @@
 // The check of a pane record: refusal 12.
-use crate::bitmap::clip_outside;
-use crate::bitmap::rule_broken;
+use bitmaps::clip_outside;
+use bitmaps::rule_broken;
 use model::Font;
 use model::Geometry;
 use model::Pane;

@@ -1,8 +1,8 @@
 // The first refusal that applies to a call on a pane: set-up's checks again, then 1 and 12.
 use crate::pane::pane_bad;
-use crate::table::refuse;
-use crate::table::setup_refusal;
 use model::Console;
+use tables::refuse;
+use tables::setup_refusal;
 ghost use mathlib.Core.Path.{_≡_};
 ghost use Rattle.model.specs.Calls.{callRefusal};
 

@@ -14,7 +14,7 @@ use model::Text;
 pub fn def_bitmap(p: Pane, address: u32, xmax: u16, ymax: u16, bits: u16, next: u32) -> Pane
     ensures { λ r. ⌜ r ≡ withPointer (withClip (withBitmap p (bitmapOf address xmax ymax bits)) (record { xmin = 0; ymin = 0; xmax = xmax; ymax = ymax })) next ⌝ }
 {
-    let bitmap = checks::bitmap::bitmap_of(address, xmax, ymax, bits);
+    let bitmap = bitmaps::bitmap_of(address, xmax, ymax, bits);
     let clip = Clip {
         xmin: 0,
         ymin: 0,

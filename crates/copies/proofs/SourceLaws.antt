@@ -28,9 +28,9 @@ use Rattle.model.proofs.PlaceLaws.{Depth}
 use Rattle.model.proofs.SetupLaws.{any-below}
 use Rattle.coordinates.proofs.SignedLaws.{coord-low, coord-high}
 use Rattle.model.proofs.PlaceLaws.{depth-bounds}
-use Rattle.checks.specs.Admitted.{Placed}
-use Rattle.checks.proofs.SizeLaws.{isDepth-known}
-use Rattle.checks.proofs.BitmapLaws.{ruleBroken-store, bitmap-fits-screen, bitmap-fits-store}
+use Rattle.bitmaps.specs.Places.{Placed}
+use Rattle.bitmaps.proofs.DepthLaws.{isDepth-known}
+use Rattle.bitmaps.proofs.BitmapLaws.{ruleBroken-store, bitmap-fits-screen, bitmap-fits-store}
 use Rattle.draw.specs.declared.Target.{Target}
 use Rattle.draw.specs.Canvas.{rowsEnd}
 use Rattle.draw.specs.Targets.{isPane}

@@ -45,7 +45,7 @@ fn row_touches(active: Bitmap, s: Surface, row: usize, first: usize, size: usize
     requires { ⌜ (s .base + 2 * (row * s .words + first) < 2 ^ 32) × (size < 2 ^ 32) ⌝ }
     ensures { λ r. ⌜ r ≡ touches active (s .base + 2 * (row * s .words + first)) size ⌝ }
 {
-    checks::bitmap::touches(active, s.base + 2 * (row * s.words + first), size)
+    bitmaps::touches(active, s.base + 2 * (row * s.words + first), size)
 }
 
 // Whether some row of a rectangle of the store touches the active bitmap: the words that hold its pixels.

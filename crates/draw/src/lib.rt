@@ -56,7 +56,7 @@ pub fn surface_of(g: Geometry, r: Row, b: Bitmap) -> Surface
             bits: _,
         } => Surface {
             base: 0,
-            words: checks::bitmap::row_words(g.width as usize, g.depth as usize),
+            words: bitmaps::row_words(g.width as usize, g.depth as usize),
             bits: g.depth as usize,
             left: r.left as usize,
             top: r.top as usize,
@@ -70,7 +70,7 @@ pub fn surface_of(g: Geometry, r: Row, b: Bitmap) -> Surface
             bits,
         } => Surface {
             base: address as usize,
-            words: checks::bitmap::row_words(xmax as usize + 1, bits as usize),
+            words: bitmaps::row_words(xmax as usize + 1, bits as usize),
             bits: bits as usize,
             left: 0,
             top: 0,

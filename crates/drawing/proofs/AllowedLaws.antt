@@ -14,7 +14,7 @@ use Rattle.model.specs.Numbers.{faultData}
 use Rattle.model.specs.Lines.{Move, Span, polyline, scanLines}
 use Rattle.model.specs.Faults.{noBitmap, arrayBad, drawFault, faultOf}
 use Rattle.model.proofs.Decisions.{cond-none}
-use Rattle.checks.proofs.SizeLaws.{isDepth-known}
+use Rattle.bitmaps.proofs.DepthLaws.{isDepth-known}
 use Rattle.draw.specs.Canvas.{Reach}
 use Rattle.draw.specs.Targets.{targetOf}
 use Rattle.draw.proofs.ReachLaws.{arrayBad-bytes, bytesBad-reach, aimed-of}

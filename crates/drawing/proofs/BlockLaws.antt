@@ -21,7 +21,7 @@ use Rattle.model.specs.Effects.{draws, effectOf}
 use Rattle.model.specs.Steps.{drewPane}
 use Rattle.model.proofs.Decisions.{cond-none}
 use Rattle.model.proofs.PlaceLaws.{depth-bounds}
-use Rattle.checks.specs.Admitted.{Placed}
+use Rattle.bitmaps.specs.Places.{Placed}
 use Rattle.draw.specs.declared.Target.{Target}
 use Rattle.draw.specs.Canvas.{canvas, paintedAll}
 use Rattle.draw.specs.Targets.{Ready, isPane, targetOf}

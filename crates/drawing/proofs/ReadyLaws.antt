@@ -19,8 +19,8 @@ use Rattle.model.specs.Effects.{Effect, draws, effectOf}
 use Rattle.model.specs.Runs.{carried}
 use Rattle.model.specs.Steps.{drewPane, planOf}
 use Rattle.model.proofs.PixelLaws.{Fits}
-use Rattle.checks.specs.Admitted.{Placed}
-use Rattle.checks.proofs.BitmapLaws.{ruleBroken-store, bitmap-fits-screen, bitmap-fits-store, clip-within}
+use Rattle.bitmaps.specs.Places.{Placed}
+use Rattle.bitmaps.proofs.BitmapLaws.{ruleBroken-store, bitmap-fits-screen, bitmap-fits-store, clip-within}
 use Rattle.draw.specs.Canvas.{Canvas, canvas, paintedAll}
 use Rattle.draw.specs.Targets.{Ready, isPane, targetOf}
 use Rattle.draw.proofs.PlanLaws.{canvasOf, planned}

@@ -13,7 +13,7 @@ use Rattle.model.specs.Faults.{faultOf}
 use Rattle.model.specs.Runs.{Finish, carried}
 use Rattle.model.specs.Steps.{planOf}
 use Rattle.decoder.proofs.DecodeLaws.{Addressed}
-use Rattle.checks.specs.Admitted.{Placed}
+use Rattle.bitmaps.specs.Places.{Placed}
 use Rattle.checks.specs.Good.{Good}
 
 -- what refusals 6 to 12 leave of a pane, its screen and its store having so many bytes

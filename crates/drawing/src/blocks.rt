@@ -51,7 +51,7 @@ fn source_of(t: Target, address: u32, xmax: u16, ymax: u16) -> Bitmap
     ensures { λ b. ⌜ b ≡ bitmapOf address xmax ymax (t .surface .bits) ⌝ }
 {
     let s = t.surface;
-    checks::bitmap::bitmap_of(address, xmax, ymax, s.bits as u16)
+    bitmaps::bitmap_of(address, xmax, ymax, s.bits as u16)
 }
 
 // BIT_BLT_M: a rectangle of another bitmap, copied to the position, which moves on by its dx and the spacing.

@@ -9,9 +9,9 @@ use Rattle.model.specs.declared.Pane.{Pane}
 use Rattle.model.specs.declared.Bitmap.{Bitmap}
 use Rattle.model.specs.declared.Bitmap.the-variants as bitmap
 use Rattle.model.specs.Bitmaps.{surfaceOf, paneSurface, storeSurface, ruleBroken}
-use Rattle.checks.specs.Admitted.{Placed}
-use Rattle.checks.proofs.SizeLaws.{isDepth-known}
-use Rattle.checks.proofs.BitmapLaws.{ruleBroken-store}
+use Rattle.bitmaps.specs.Places.{Placed}
+use Rattle.bitmaps.proofs.DepthLaws.{isDepth-known}
+use Rattle.bitmaps.proofs.BitmapLaws.{ruleBroken-store}
 use Rattle.faults.specs.Sound.{Active, Sound}
 
 -- a screen has at most 4096 columns and at most 8 bits per pixel

@@ -8,7 +8,7 @@ use Rattle.model.specs.declared.Pane.{Pane}
 use Rattle.model.specs.declared.Bitmap.{Bitmap}
 use Rattle.model.specs.declared.Clip.{Clip}
 use Rattle.model.specs.Bitmaps.{bitmapOf, surfaceOf, ruleBroken}
-use Rattle.checks.specs.Admitted.{Placed}
+use Rattle.bitmaps.specs.Places.{Placed}
 use Rattle.checks.specs.Good.{Good}
 
 -- the clip that DEF_CLIP_RECT names

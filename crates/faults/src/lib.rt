@@ -1,5 +1,4 @@
 // Each command's fault, looked for before any of that command is done.
-use checks::table::refuse;
 use copychecks::block_bad;
 use draw::surface_of;
 use model::Bitmap;
@@ -10,6 +9,7 @@ use model::Geometry;
 use model::Pane;
 use model::Returns;
 use model::Row;
+use tables::refuse;
 ghost use mathlib.Core.Path.{_≡_};
 ghost use mathlib.Core.Bool.{false, cond, _||_};
 ghost use Prim.Native.Nat.{_%_, _≤_, _<_, _^_};
@@ -76,7 +76,7 @@ fn return_fault(kept: Returns) -> u8
 fn bitmap_fault(g: Geometry, r: Row, b: Bitmap) -> u8
     ensures { λ f. ⌜ f ≡ cond (ruleBroken g r b) faultBitmap 0 ⌝ }
 {
-    refuse(checks::bitmap::rule_broken(g, r, b), FAULT_BITMAP, 0)
+    refuse(bitmaps::rule_broken(g, r, b), FAULT_BITMAP, 0)
 }
 
 // ---- Commands that need the active bitmap
@@ -85,7 +85,7 @@ fn bitmap_fault(g: Geometry, r: Row, b: Bitmap) -> u8
 fn draw_fault(active: Bitmap, rest: u8) -> u8
     ensures { λ f. ⌜ f ≡ cond (noBitmap active) faultNoBitmap rest ⌝ }
 {
-    refuse(checks::bitmap::no_bitmap(active), FAULT_NO_BITMAP, rest)
+    refuse(bitmaps::no_bitmap(active), FAULT_NO_BITMAP, rest)
 }
 
 // DEF_CLIP_RECT's fault.
@@ -98,7 +98,7 @@ fn clip_fault(active: Bitmap, xmin: u16, ymin: u16, xmax: u16, ymax: u16) -> u8
         xmax,
         ymax,
     };
-    let outside = checks::bitmap::clip_outside(active, clip);
+    let outside = bitmaps::clip_outside(active, clip);
     draw_fault(active, refuse(outside, FAULT_CLIP, 0))
 }
 
@@ -107,7 +107,7 @@ fn array_fault(r: Row, active: Bitmap, array: u32, size: usize) -> u8
     requires { ⌜ (array < 0x400000) × (size < 2 ^ 32) ⌝ }
     ensures { λ f. ⌜ f ≡ cond (noBitmap active) faultNoBitmap (cond (arrayBad r active array size) faultData 0) ⌝ }
 {
-    let bad = checks::bitmap::array_bad(r, active, array as usize, size);
+    let bad = bitmaps::array_bad(r, active, array as usize, size);
     draw_fault(active, refuse(bad, FAULT_DATA, 0))
 }
 
@@ -159,7 +159,7 @@ fn copy_fault(
     requires { ⌜ Active g r active × (noBitmap source ≡ false) ⌝ }
     ensures { λ f. ⌜ f ≡ copyFault g r active source (block x y dx dy) ⌝ }
 {
-    if checks::bitmap::rule_broken(g, r, source) {
+    if bitmaps::rule_broken(g, r, source) {
         return FAULT_BITMAP;
     }
     let s = surface_of(g, r, source);
@@ -176,7 +176,7 @@ fn source_of(g: Geometry, r: Row, active: Bitmap, address: u32, xmax: u16, ymax:
     ensures { λ b. ⌜ (b ≡ sourceOf g r active address xmax ymax) × (noBitmap b ≡ false) ⌝ }
 {
     let s = surface_of(g, r, active);
-    checks::bitmap::bitmap_of(address, xmax, ymax, s.bits as u16)
+    bitmaps::bitmap_of(address, xmax, ymax, s.bits as u16)
 }
 
 // ---- All commands
@@ -205,7 +205,7 @@ pub fn fault_of(store: &[u8], g: Geometry, r: Row, p: Pane, c: Command) -> u8
             xmax,
             ymax,
             bits,
-        } => bitmap_fault(g, r, checks::bitmap::bitmap_of(address, xmax, ymax, bits)),
+        } => bitmap_fault(g, r, bitmaps::bitmap_of(address, xmax, ymax, bits)),
         Command::DefColors { fore: _, back: _ } => 0,
         Command::DefLogicalOp { mask: _, code: _ } => 0,
         Command::EnterPick => 0,

@@ -3,8 +3,8 @@
 use crate::descriptor::descriptor_of;
 use crate::descriptor::height_of;
 use crate::descriptor::offset_at;
-use checks::bitmap::array_bad;
-use checks::bitmap::bytes_bad;
+use bitmaps::array_bad;
+use bitmaps::bytes_bad;
 use model::Bitmap;
 use model::Font;
 use model::Row;

@@ -30,7 +30,7 @@ use Rattle.model.specs.Setup.{fontBad}
 use Rattle.model.specs.Steps.{Plan, planOf, judged, obey, step}
 use Rattle.model.proofs.Decisions.{split, cond-ind, cond-none, cond-true, cond-false}
 use Rattle.checks.specs.Good.{Good}
-use Rattle.checks.proofs.BitmapLaws.{whole-clip}
+use Rattle.bitmaps.proofs.BitmapLaws.{whole-clip}
 use Rattle.checks.proofs.GoodLaws.{good-pointer, good-ended, good-faulted, good-position, good-bitmap, good-clip, good-colours, good-operation, good-pattern, good-spacing, good-orientation, good-font, good-flags, good-returns, good-baseBad}
 use Rattle.decoder.proofs.DecodeLaws.{Addressed, decode-addressed}
 

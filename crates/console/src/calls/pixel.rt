@@ -2,14 +2,14 @@
 use crate::Answered;
 use crate::record::refused;
 use crate::record::row_at;
-use checks::bitmap::row_words;
+use bitmaps::row_words;
 use checks::refusal::call_refusal;
-use checks::table::refuse;
 use model::Console;
 use model::Geometry;
 use model::Reply;
 use model::Row;
 use model::Surface;
+use tables::refuse;
 ghost use mathlib.Core.Path.{_≡_};
 ghost use Prim.Native.Nat.{_≤_};
 ghost use Rattle.model.specs.Bitmaps.{paneSurface};

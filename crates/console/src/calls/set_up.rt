@@ -2,9 +2,9 @@
 use crate::Answered;
 use crate::record::fresh;
 use crate::record::refused;
-use checks::table::setup_refusal;
 use model::Console;
 use model::Reply;
+use tables::setup_refusal;
 ghost use mathlib.Core.Path.{_≡_};
 ghost use Rattle.model.specs.Calls.{setUp};
 ghost use Rattle.console.specs.Answers.{state, answer};

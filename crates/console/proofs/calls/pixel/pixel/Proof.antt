@@ -2,7 +2,7 @@
 use mathlib.Core.Path.{refl, ap}
 use Rattle.model.specs.Calls.{rowOf, recordOf, onPane}
 use Rattle.model.specs.declared.Reply.the-variants as reply
-use Rattle.checks.proofs.SizeLaws.{isDepth-known}
+use Rattle.bitmaps.proofs.DepthLaws.{isDepth-known}
 use Rattle.console.proofs.CallLaws.{exec-refused, exec-refused-own, own-by-row, exec-kept}
 use Rattle.console.proofs.AcceptedLaws.{admitted, pixel-drawable}
 use borrow.Author.Needs.{needs}

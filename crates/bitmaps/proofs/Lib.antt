@@ -1,0 +1,3 @@
+-- Laws of depths, and of bitmaps and clips that no rule refuses.
+pub mod DepthLaws
+pub mod BitmapLaws

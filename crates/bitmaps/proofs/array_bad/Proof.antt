@@ -1,0 +1,15 @@
+-- The tests on an array are the definition's.
+use Rattle.model.specs.Faults.{arrayBad}
+use borrow.Author.Needs.{needs}
+use Rattle.bitmaps.proofs.array_bad.Statement.{statement}
+use Rattle.bitmaps.proofs.array_bad.Tie as tie
+
+bytes-bad-requires : tie.Need-bytes-bad-requires
+bytes-bad-requires c κs = search needs
+
+returns : tie.Need-returns
+unfolding arrayBad
+returns c = cc
+
+pub array-bad-spec : {M : Type 1} → statement M
+array-bad-spec = tie.close (tie.spec bytes-bad-requires returns)

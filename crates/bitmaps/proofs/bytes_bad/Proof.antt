@@ -1,0 +1,16 @@
+-- The tests on bytes of the store are the definition's.
+use borrow.Author.Needs.{needs}
+use Rattle.bitmaps.proofs.bytes_bad.Statement.{statement}
+use Rattle.bitmaps.proofs.bytes_bad.Tie as tie
+
+passes-end-requires : tie.Need-passes-end-requires
+passes-end-requires c κs = search needs
+
+touches-requires : tie.Need-touches-requires
+touches-requires c κs = search needs
+
+returns : tie.Need-returns
+returns c = cc
+
+pub bytes-bad-spec : {M : Type 1} → statement M
+bytes-bad-spec = tie.close (tie.spec passes-end-requires touches-requires returns)

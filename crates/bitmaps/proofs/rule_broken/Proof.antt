@@ -1,0 +1,45 @@
+-- DEF_BITMAP's rule, variant by variant.
+use Rattle.model.specs.Bitmaps.{ruleBroken}
+use borrow.Author.Needs.{needs}
+use Rattle.bitmaps.proofs.rule_broken.Statement.{statement}
+use Rattle.bitmaps.proofs.rule_broken.Tie as tie
+
+enum-told : tie.Need-enum-told
+enum-told c = search needs
+
+enum-known-b : tie.Need-enum-known-b
+enum-known-b c = search needs
+
+pane-bitmap-bad-requires : tie.Need-pane-bitmap-bad-requires
+pane-bitmap-bad-requires c κs = search needs
+
+enum-known-b-2 : tie.Need-enum-known-b-2
+enum-known-b-2 c = search needs
+
+store-bitmap-bad-requires : tie.Need-store-bitmap-bad-requires
+store-bitmap-bad-requires c κs = search needs
+
+returns : tie.Need-returns
+unfolding ruleBroken
+returns c = search needs
+
+returns-2 : tie.Need-returns-2
+unfolding ruleBroken
+returns-2 c = simp (c .before .before .b .given .1) (c .pane-bitmap-bad .ensures)
+
+returns-3 : tie.Need-returns-3
+unfolding ruleBroken
+returns-3 c = simp (c .before .before .b2 .given .1) (c .store-bitmap-bad .ensures)
+
+pub rule-broken-spec : {M : Type 1} → statement M
+rule-broken-spec =
+    tie.close
+    (tie.spec
+    enum-told
+    enum-known-b
+    pane-bitmap-bad-requires
+    enum-known-b-2
+    store-bitmap-bad-requires
+    returns
+    returns-2
+    returns-3)

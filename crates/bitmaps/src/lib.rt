@@ -1,0 +1,185 @@
+// DEF_BITMAP's rule, clips, and bytes of the store that touch a bitmap: refusal 12 and the commands' faults look at these.
+use model::Bitmap;
+use model::Clip;
+use model::Geometry;
+use model::Row;
+ghost use mathlib.Core.Path.{_≡_};
+ghost use Prim.Native.Nat.{_+_, _^_, _≤_, _<_};
+ghost use lib.Dec.{ltb};
+ghost use Rattle.model.specs.Bitmaps.{isDepth, rowWords, bitmapOf, bitmapBytes, paneBitmapBad, storeBitmapBad, ruleBroken, shareSpan, touches};
+ghost use Rattle.model.specs.Faults.{noBitmap, clipBeyond, clipOutside, bytesBad, arrayBad};
+
+// The address that means the pane.
+const PANE_ADDRESS: u32 = 0x200000;
+
+// Whether so many bits per pixel are a depth: 1, 2, 4 or 8.
+pub fn is_depth(bits: u32) -> bool
+    ensures { λ r. ⌜ r ≡ isDepth bits ⌝ }
+{
+    (bits == 1) | ((bits == 2) | ((bits == 4) | (bits == 8)))
+}
+
+// The words of a row of so many pixels.
+pub fn row_words(width: usize, bits: usize) -> usize
+    requires { ⌜ (width ≤ 65536) × (bits ≤ 65535) ⌝ }
+    ensures { λ r. ⌜ r ≡ rowWords width bits ⌝ }
+{
+    (width * bits + 15) / 16
+}
+
+// The bytes of a store bitmap's rows.
+pub fn bitmap_bytes(xmax: u16, ymax: u16, bits: u16) -> usize
+    ensures { λ r. ⌜ (r ≡ bitmapBytes xmax ymax bits) × (r < 2 ^ 45) ⌝ }
+{
+    let words = row_words(xmax as usize + 1, bits as usize);
+    2 * (words * (ymax as usize + 1))
+}
+
+// The bitmap that an address and DEF_BITMAP's other values name.
+pub fn bitmap_of(address: u32, xmax: u16, ymax: u16, bits: u16) -> Bitmap
+    ensures { λ r. ⌜ r ≡ bitmapOf address xmax ymax bits ⌝ }
+{
+    if address == PANE_ADDRESS {
+        return Bitmap::Pane { xmax, ymax, bits };
+    }
+    Bitmap::Store {
+        address,
+        xmax,
+        ymax,
+        bits,
+    }
+}
+
+// Whether there is no bitmap.
+pub fn no_bitmap(b: Bitmap) -> bool
+    ensures { λ r. ⌜ r ≡ noBitmap b ⌝ }
+{
+    match b {
+        Bitmap::Absent => true,
+        Bitmap::Pane {
+            xmax: _,
+            ymax: _,
+            bits: _,
+        } => false,
+        Bitmap::Store {
+            address: _,
+            xmax: _,
+            ymax: _,
+            bits: _,
+        } => false,
+    }
+}
+
+// Whether bytes from an address on pass the end of a store of so many bytes.
+fn passes_end(len: u32, at: usize, size: usize) -> bool
+    requires { ⌜ (at < 2 ^ 32) × (size < 2 ^ 48) ⌝ }
+    ensures { λ r. ⌜ r ≡ ltb len (at + size) ⌝ }
+{
+    (len as usize) < at + size
+}
+
+// Whether these values differ from the pane's width, height and depth.
+fn pane_bitmap_bad(g: Geometry, r: Row, xmax: u16, ymax: u16, bits: u16) -> bool
+    ensures { λ res. ⌜ res ≡ paneBitmapBad g r xmax ymax bits ⌝ }
+{
+    !((xmax as u32 + 1 == r.width) & ((ymax as u32 + 1 == r.height) & (bits as u32 == g.depth)))
+}
+
+// Whether a bitmap in a store of so many bytes breaks DEF_BITMAP's rule.
+fn store_bitmap_bad(len: u32, address: u32, xmax: u16, ymax: u16, bits: u16) -> bool
+    ensures { λ r. ⌜ r ≡ storeBitmapBad len address xmax ymax bits ⌝ }
+{
+    let size = bitmap_bytes(xmax, ymax, bits);
+    (address % 2 == 1)
+        | ((xmax > 0x7FFF)
+            | ((ymax > 0x7FFF)
+                | (!is_depth(bits as u32) | passes_end(len, address as usize, size))))
+}
+
+// Whether a bitmap breaks DEF_BITMAP's rule for a pane with this geometry and row; no bitmap breaks none.
+pub fn rule_broken(g: Geometry, r: Row, b: Bitmap) -> bool
+    ensures { λ res. ⌜ res ≡ ruleBroken g r b ⌝ }
+{
+    match b {
+        Bitmap::Absent => false,
+        Bitmap::Pane { xmax, ymax, bits } => pane_bitmap_bad(g, r, xmax, ymax, bits),
+        Bitmap::Store {
+            address,
+            xmax,
+            ymax,
+            bits,
+        } => store_bitmap_bad(r.len, address, xmax, ymax, bits),
+    }
+}
+
+// Whether some value of a clip is above these.
+fn clip_beyond(xmax: u16, ymax: u16, c: Clip) -> bool
+    ensures { λ r. ⌜ r ≡ clipBeyond xmax ymax c ⌝ }
+{
+    (xmax < c.xmin) | ((ymax < c.ymin) | ((xmax < c.xmax) | (ymax < c.ymax)))
+}
+
+// Whether some value of a clip is outside a bitmap, or not 0 without one.
+pub fn clip_outside(b: Bitmap, c: Clip) -> bool
+    ensures { λ r. ⌜ r ≡ clipOutside b c ⌝ }
+{
+    match b {
+        Bitmap::Absent => clip_beyond(0, 0, c),
+        Bitmap::Pane {
+            xmax,
+            ymax,
+            bits: _,
+        } => clip_beyond(xmax, ymax, c),
+        Bitmap::Store {
+            address: _,
+            xmax,
+            ymax,
+            bits: _,
+        } => clip_beyond(xmax, ymax, c),
+    }
+}
+
+// Whether the numbers from a on, m of them, and from b on, n of them, have one in common.
+pub fn share_span(a: usize, m: usize, b: usize, n: usize) -> bool
+    requires { ⌜ (a + m < 2 ^ 48) × (b + n < 2 ^ 48) ⌝ }
+    ensures { λ r. ⌜ r ≡ shareSpan a m b n ⌝ }
+{
+    (m > 0) & ((n > 0) & ((a < b + n) & (b < a + m)))
+}
+
+// Whether bytes of the store touch a bitmap; none touch the pane.
+pub fn touches(b: Bitmap, at: usize, size: usize) -> bool
+    requires { ⌜ (at < 2 ^ 32) × (size < 2 ^ 32) ⌝ }
+    ensures { λ r. ⌜ r ≡ touches b at size ⌝ }
+{
+    match b {
+        Bitmap::Absent => false,
+        Bitmap::Pane {
+            xmax: _,
+            ymax: _,
+            bits: _,
+        } => false,
+        Bitmap::Store {
+            address,
+            xmax,
+            ymax,
+            bits,
+        } => share_span(at, size, address as usize, bitmap_bytes(xmax, ymax, bits)),
+    }
+}
+
+// Whether bytes of the store are outside it or touch the active bitmap; no bytes are neither.
+pub fn bytes_bad(r: Row, b: Bitmap, at: usize, size: usize) -> bool
+    requires { ⌜ (at < 2 ^ 32) × (size < 2 ^ 32) ⌝ }
+    ensures { λ res. ⌜ res ≡ bytesBad r b at size ⌝ }
+{
+    !(size == 0) & (passes_end(r.len, at, size) | touches(b, at, size))
+}
+
+// Whether an array in the store is at an odd address, outside the store or touches the active bitmap.
+pub fn array_bad(r: Row, b: Bitmap, at: usize, size: usize) -> bool
+    requires { ⌜ (at < 2 ^ 32) × (size < 2 ^ 32) ⌝ }
+    ensures { λ res. ⌜ res ≡ arrayBad r b at size ⌝ }
+{
+    (at % 2 == 1) | bytes_bad(r, b, at, size)
+}
