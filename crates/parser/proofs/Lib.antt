@@ -1,6 +1,2 @@
--- Laws of a line's text.
-pub mod NumberLaws
-pub mod PieceLaws
-pub mod ByteLaws
+-- Laws of what a line says.
 pub mod LineLaws
-pub mod ReadingLaws

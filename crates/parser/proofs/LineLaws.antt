@@ -5,8 +5,9 @@ use Prim.Native.Nat.{ℕ}
 use native.Mathlib.Omega.{arith}
 use lib.ListN.{length, getD}
 use lib.Seq.{length-take-le}
-use Rattle.parser.specs.Lines.{before, comma, fieldsOf, firstField, malformed, byLetter, lettered, lineOf}
-use Rattle.parser.proofs.PieceLaws.{before-le, field-first}
+use Rattle.fields.specs.Fields.{before, comma, fieldsOf, firstField}
+use Rattle.parser.specs.Lines.{malformed, byLetter, lettered, lineOf}
+use Rattle.fields.proofs.PieceLaws.{before-le, field-first}
 
 -- a first field of another length than one is no letter
 lettered-other : (f : List ℕ) (fs : List (List ℕ)) → (length f ≡ 1 → ⊥) → lettered f fs ≡ malformed

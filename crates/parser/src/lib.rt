@@ -1,23 +1,15 @@
-// What a line of a script says: the text taken apart into lines and fields, and the fields into numbers and bytes.
+// What a line of a script says: its letter, and the values of its fields.
+use fields::Number;
+use fields::bytes;
+use fields::first_end;
+use fields::numbers;
 use model::Geometry;
-
-mod text; // text.rt: a line's end, its fields, their numbers and bytes
-mod letters; // letters.rt: a line by its letter
-
-pub use letters::parse;
-pub use text::line_end;
-
-// A number of at most 32 bits, or a field that spells none.
-pub enum Number {
-    Good(u32),
-    Bad,
-}
-
-// The numbers of a line, or that its fields spell none.
-struct Numbers {
-    bad: bool,
-    values: [u32; 5],
-}
+ghost use mathlib.Core.Path.{_≡_};
+ghost use mathlib.Core.List.{List};
+ghost use Prim.Native.Nat.{ℕ, _≤_};
+ghost use lib.ListN.{length};
+ghost use Rattle.fields.specs.Fields.{fieldsOf};
+ghost use Rattle.parser.specs.Lines.{meant, lineOf, byLetter, screenLine, paneLine, openLine, putLine, startLine, runLine, lookLine, pixelLine};
 
 // A line: `s`, `p`, `o`, and the calls `w`, `g`, `r`, `l` and `x`, or one that is malformed. The bytes of a put, so many, stand at the start
 // of a buffer beside it.
@@ -53,4 +45,165 @@ pub enum Line {
         y: u32,
     },
     Malformed,
+}
+
+// The bases of a line's numbers where all are decimal.
+const DECIMAL: [u32; 5] = [10; 5];
+
+// Those of a pane and an address, which is hex.
+const PANE_AND_ADDRESS: [u32; 5] = [10, 16, 0, 0, 0];
+
+// The line `s,width,height,depth`.
+fn screen(line: &[u8]) -> Line
+    ensures { λ r. ⌜ ((buffer : List ℕ) → meant r buffer ≡ screenLine (fieldsOf (now (line .entry)))) ⌝ }
+{
+    let n = numbers(line, 3, DECIMAL, 3);
+    if n.bad {
+        return Line::Malformed;
+    }
+    let v = n.values;
+    Line::Screen(Geometry {
+        width: v[0],
+        height: v[1],
+        depth: v[2],
+    })
+}
+
+// The line `p,left,top,width,height,store length`.
+fn pane(line: &[u8]) -> Line
+    ensures { λ r. ⌜ ((buffer : List ℕ) → meant r buffer ≡ paneLine (fieldsOf (now (line .entry)))) ⌝ }
+{
+    let n = numbers(line, 5, DECIMAL, 5);
+    if n.bad {
+        return Line::Malformed;
+    }
+    let v = n.values;
+    Line::Pane {
+        left: v[0],
+        top: v[1],
+        width: v[2],
+        height: v[3],
+        len: v[4],
+    }
+}
+
+// The line `o`.
+fn open(line: &[u8]) -> Line
+    ensures { λ r. ⌜ ((buffer : List ℕ) → meant r buffer ≡ openLine (fieldsOf (now (line .entry)))) ⌝ }
+{
+    let n = numbers(line, 0, DECIMAL, 0);
+    if n.bad {
+        return Line::Malformed;
+    }
+    Line::Open
+}
+
+// The line `w,pane,address,bytes`: put. The bytes are left at the start of the buffer.
+fn put(line: &[u8], buffer: &mut [u8]) -> Line
+    requires { ⌜ length (now line) ≤ 8192 ⌝ }
+    requires { ⌜ 4096 ≤ length (now buffer) ⌝ }
+    ensures { λ r. ⌜ meant r (now (buffer .exit)) ≡ putLine (fieldsOf (now (line .entry))) ⌝ }
+{
+    let n = numbers(line, 3, PANE_AND_ADDRESS, 2);
+    if n.bad {
+        return Line::Malformed;
+    }
+    let Number::Good(count) = bytes(line, 3, buffer) else {
+        return Line::Malformed;
+    };
+    let v = n.values;
+    Line::Put {
+        pane: v[0],
+        address: v[1],
+        count,
+    }
+}
+
+// The line `g,pane,address`: start.
+fn start(line: &[u8]) -> Line
+    ensures { λ r. ⌜ ((buffer : List ℕ) → meant r buffer ≡ startLine (fieldsOf (now (line .entry)))) ⌝ }
+{
+    let n = numbers(line, 2, PANE_AND_ADDRESS, 2);
+    if n.bad {
+        return Line::Malformed;
+    }
+    let v = n.values;
+    Line::Start {
+        pane: v[0],
+        address: v[1],
+    }
+}
+
+// The line `r,pane,budget`: run.
+fn run(line: &[u8]) -> Line
+    ensures { λ r. ⌜ ((buffer : List ℕ) → meant r buffer ≡ runLine (fieldsOf (now (line .entry)))) ⌝ }
+{
+    let n = numbers(line, 2, DECIMAL, 2);
+    if n.bad {
+        return Line::Malformed;
+    }
+    let v = n.values;
+    Line::Run {
+        pane: v[0],
+        budget: v[1],
+    }
+}
+
+// The line `l,pane`: look.
+fn look(line: &[u8]) -> Line
+    ensures { λ r. ⌜ ((buffer : List ℕ) → meant r buffer ≡ lookLine (fieldsOf (now (line .entry)))) ⌝ }
+{
+    let n = numbers(line, 1, DECIMAL, 1);
+    if n.bad {
+        return Line::Malformed;
+    }
+    let v = n.values;
+    Line::Look { pane: v[0] }
+}
+
+// The line `x,pane,x,y`: pixel.
+fn pixel(line: &[u8]) -> Line
+    ensures { λ r. ⌜ ((buffer : List ℕ) → meant r buffer ≡ pixelLine (fieldsOf (now (line .entry)))) ⌝ }
+{
+    let n = numbers(line, 3, DECIMAL, 3);
+    if n.bad {
+        return Line::Malformed;
+    }
+    let v = n.values;
+    Line::Pixel {
+        pane: v[0],
+        x: v[1],
+        y: v[2],
+    }
+}
+
+// A line by its letter.
+fn by_letter(letter: u8, line: &[u8], buffer: &mut [u8]) -> Line
+    requires { ⌜ length (now line) ≤ 8192 ⌝ }
+    requires { ⌜ 4096 ≤ length (now buffer) ⌝ }
+    ensures { λ r. ⌜ meant r (now (buffer .exit)) ≡ byLetter letter (fieldsOf (now (line .entry))) ⌝ }
+{
+    match letter {
+        b's' => screen(line),
+        b'p' => pane(line),
+        b'o' => open(line),
+        b'w' => put(line, buffer),
+        b'g' => start(line),
+        b'r' => run(line),
+        b'l' => look(line),
+        b'x' => pixel(line),
+        _ => Line::Malformed,
+    }
+}
+
+// What a line says. Its first field is the letter alone.
+pub fn parse(line: &[u8], buffer: &mut [u8]) -> Line
+    requires { ⌜ length (now line) ≤ 8192 ⌝ }
+    requires { ⌜ 4096 ≤ length (now buffer) ⌝ }
+    ensures { λ r. ⌜ meant r (now (buffer .exit)) ≡ lineOf (now (line .entry)) ⌝ }
+{
+    if first_end(line) != 1 {
+        return Line::Malformed;
+    }
+    by_letter(line[0], line, buffer)
 }

@@ -14,6 +14,7 @@ use Rattle.model.specs.declared.Reply.{Reply}
 use Rattle.model.specs.declared.Reply.the-variants as reply
 use Rattle.model.specs.Words.{digit}
 use Rattle.model.specs.Coordinates.{coord}
+use Rattle.fields.specs.Fields.{comma, lineFeed}
 
 -- a number's digits in a base, the first of them no 0 unless it is the only one; of a number with at most k + 1
 unfoldable pub numeral : ℕ → ℕ → ℕ → List ℕ
@@ -55,15 +56,15 @@ valueTexts (reply.Value n) = decimalText 0 ∷ decimalText n ∷ []
 -- each value after a comma
 unfoldable pub listed : List (List ℕ) → List ℕ
 listed [] = []
-listed (t ∷ ts) = 44 ∷ (t ++ listed ts)
+listed (t ∷ ts) = comma ∷ (t ++ listed ts)
 
 -- a reply under its line's letter, and a line feed
 unfoldable pub replyText : ℕ → Reply → List ℕ
-replyText letter r = letter ∷ (listed (valueTexts r) ++ (10 ∷ []))
+replyText letter r = letter ∷ (listed (valueTexts r) ++ (lineFeed ∷ []))
 
 -- "prints ?"
 abbrev pub malformedText : List ℕ
-malformedText = 63 ∷ 10 ∷ []
+malformedText = 63 ∷ lineFeed ∷ []
 
 -- ## Text written to a buffer
 

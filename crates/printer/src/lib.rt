@@ -1,5 +1,7 @@
 // A reply as text: letter, refusal, values; numbers decimal, pointers in lower-case hex. Each function writes from a place of the
 // buffer on and answers the place after; what the buffer has no room for is left out.
+use fields::COMMA;
+use fields::LINE_FEED;
 use model::Progress;
 use model::Ran;
 use model::Reply;
@@ -10,12 +12,6 @@ ghost use lib.ListN.{length};
 ghost use Rattle.model.specs.Words.{digit};
 ghost use Rattle.model.specs.Coordinates.{coord};
 ghost use Rattle.printer.specs.Replies.{decimalText, hexText, signedText, ranTexts, progressTexts, seenTexts, valueTexts, listed, replyText, malformedText, Wrote};
-
-// What stands between two fields.
-const COMMA: u8 = 44;
-
-// The line feed that ends a line.
-const LINE_FEED: u8 = 10;
 
 // Writes one byte.
 fn push(out: &mut [u8], at: usize, byte: u8) -> usize

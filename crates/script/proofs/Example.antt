@@ -5,8 +5,9 @@ use Prim.Native.Nat.{ℕ}
 use Prim.Native.Char.{code}
 use Prim.Native.String.{String, [], _∷_}
 use Rattle.model.proofs.Computing.{machine}
-use Rattle.parser.specs.Numbers.{longer, extended, andDigits, spelledNumber}
-use Rattle.parser.specs.Lines.{onFirst, pieces, spelledBytes, numbersOf, lineNumbers, screenLine, paneLine, openLine, putLine, startLine, runLine, lookLine, pixelLine, byLetter, lettered, lineOf}
+use Rattle.fields.specs.Numbers.{longer, extended, andDigits, spelledNumber}
+use Rattle.fields.specs.Fields.{onFirst, pieces, spelledBytes, numbersOf, lineNumbers}
+use Rattle.parser.specs.Lines.{screenLine, paneLine, openLine, putLine, startLine, runLine, lookLine, pixelLine, byLetter, lettered, lineOf}
 use Rattle.printer.specs.Replies.{numeral, listed, replyText}
 use Rattle.script.specs.Desk.{made, restored, obeyed}
 use Rattle.script.specs.Scripts.{printed, answered}

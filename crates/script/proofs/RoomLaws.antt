@@ -9,7 +9,8 @@ use lib.Dec.{ltb, eqb}
 use lib.ListN.{length, take, length-append}
 use lib.Seq.{take-all}
 use Rattle.model.proofs.Decisions.{split}
-use Rattle.parser.specs.Lines.{onFirst, pieces, lineFeed, linesOf, lineOf}
+use Rattle.fields.specs.Fields.{onFirst, pieces, lineFeed, linesOf}
+use Rattle.parser.specs.Lines.{lineOf}
 use Rattle.printer.proofs.LengthLaws.{reply-length}
 use Rattle.script.specs.declared.session.Outcome.{Outcome}
 use Rattle.script.specs.declared.session.Outcome.the-variants as outcome

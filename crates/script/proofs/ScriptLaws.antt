@@ -6,8 +6,9 @@ use native.Mathlib.Omega.{arith}
 use borrow.Author.Tests.{lt-ltb, le-ltb}
 use lib.ListN.{length, take, drop, length-drop}
 use lib.Seq.{drop-drop}
-use Rattle.parser.specs.Lines.{before, lineFeed, linesOf, lineOf}
-use Rattle.parser.proofs.PieceLaws.{linesOf-next, linesOf-none}
+use Rattle.fields.specs.Fields.{before, lineFeed, linesOf}
+use Rattle.parser.specs.Lines.{lineOf}
+use Rattle.fields.proofs.PieceLaws.{linesOf-next, linesOf-none}
 use Rattle.model.proofs.Decisions.{cond-true, cond-false}
 use Rattle.printer.specs.Replies.{malformedText, Wrote}
 use Rattle.printer.proofs.WroteLaws.{Wrote-then, Wrote-none}

@@ -6,7 +6,8 @@ use lib.Dec.{ltb}
 use lib.ListN.{length, replicate}
 use Rattle.script.specs.declared.session.Outcome.{Outcome}
 use Rattle.script.specs.declared.session.Outcome.the-variants as outcome
-use Rattle.parser.specs.Lines.{linesOf, lineOf}
+use Rattle.fields.specs.Fields.{linesOf}
+use Rattle.parser.specs.Lines.{lineOf}
 use Rattle.script.specs.Desk.{Desk, desk, begun, obeyed, mostScreen, mostStores}
 use Rattle.printer.specs.Replies.{replyText, malformedText}
 

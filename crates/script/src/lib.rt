@@ -11,7 +11,8 @@ ghost use mathlib.Core.Path.{_≡_};
 ghost use Prim.Native.Nat.{_≤_};
 ghost use lib.ListN.{length, take, replicate};
 ghost use Rattle.io.specs.Counts.{Counts};
-ghost use Rattle.parser.specs.Lines.{linesOf, lineOf, meant};
+ghost use Rattle.fields.specs.Fields.{linesOf};
+ghost use Rattle.parser.specs.Lines.{lineOf, meant};
 ghost use Rattle.script.specs.Desk.{desk, moved, obeyed, begun};
 ghost use Rattle.printer.specs.Replies.{Wrote};
 ghost use Rattle.script.specs.Scripts.{textOf, answered, printed, room};
@@ -84,7 +85,7 @@ fn lines(
     let mut written = 0;
     let mut from = 0;
     while from < script.len() {
-        let end = parser::line_end(script, from);
+        let end = fields::line_end(script, from);
         let next = end + 1;
         let printed = one_line(
             &script[from..end],
