@@ -2,5 +2,6 @@
 pub mod CanvasLaws
 pub mod KeptLaws
 pub mod TargetLaws
+pub mod PaintLaws
 pub mod PlanLaws
 pub mod ReachLaws

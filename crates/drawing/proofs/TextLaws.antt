@@ -21,8 +21,8 @@ use Rattle.draw.specs.Canvas.{canvas}
 use Rattle.draw.specs.Targets.{targetOf}
 use Rattle.glyphs.specs.declared.text.Written.{Written}
 use Rattle.draw.proofs.ReachLaws.{aimed-of}
-use Rattle.glyphs.specs.Strings.{Writable, Outcome, outcome, carriedOut}
-use Rattle.glyphs.proofs.CheckLaws.{char-legible}
+use Rattle.glyphs.specs.Writing.{Writable, Outcome, outcome, carriedOut}
+use Rattle.strings.proofs.CheckLaws.{char-legible}
 use Rattle.drawing.specs.Stepping.{Sound, left, done}
 use Rattle.drawing.proofs.AllowedLaws.{drawFault-none}
 use Rattle.drawing.proofs.ReadyLaws.{ready-of, drew-painted}

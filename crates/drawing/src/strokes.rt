@@ -65,7 +65,7 @@ pub fn rect(
 {
     let t = draw::target_of(g, r, p);
     let from = p.position;
-    let hits = lines::rect(screen, store, t, from, dx, dy);
+    let hits = outlines::rect(screen, store, t, from, dx, dy);
     commands::position::drew(p, next, from, false, hits)
 }
 
@@ -85,7 +85,7 @@ pub fn polyline(
 {
     let t = draw::target_of(g, r, p);
     let from = p.position;
-    let drawn = lines::polyline(screen, store, t, from, array as usize, count as usize);
+    let drawn = arrays::polyline(screen, store, t, from, array as usize, count as usize);
     let to = drawn.position;
     commands::position::drew(p, next, to, false, drawn.hits)
 }
@@ -106,7 +106,7 @@ pub fn scan_lines(
 {
     let t = draw::target_of(g, r, p);
     let from = p.position;
-    let drawn = lines::scan_lines(screen, store, t, from, array as usize, count as usize);
+    let drawn = arrays::scan_lines(screen, store, t, from, array as usize, count as usize);
     let to = drawn.position;
     commands::position::drew(p, next, to, false, drawn.hits)
 }

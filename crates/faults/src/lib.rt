@@ -20,7 +20,7 @@ ghost use Rattle.model.specs.Bitmaps.{surfaceOf, ruleBroken};
 ghost use Rattle.model.specs.Copies.{blockBad};
 ghost use Rattle.model.specs.Faults.{noBitmap, noFont, clipOutside, arrayBad, stringBad, descriptorsBad, block, copyFault, faultOf};
 ghost use Rattle.decoder.proofs.DecodeLaws.{Addressed};
-ghost use Rattle.glyphs.specs.Reading as reading;
+ghost use Rattle.strings.specs.Reading as reading;
 ghost use Rattle.faults.specs.Sound.{clipOf, sourceOf, Active, Sound};
 
 // "DEF_BITMAP: 22 rule broken", and so for BIT_BLT_M's source.
@@ -127,7 +127,7 @@ fn char_fault(store: &[u8], r: Row, active: Bitmap, font: Font, string: u32, cou
     requires { ⌜ reading.Addressed r (now store) font string ⌝ }
     ensures { λ f. ⌜ f ≡ cond (noBitmap active) faultNoBitmap (cond (noFont font) faultNoFont (cond (stringBad r active (now (store .entry)) font string count || descriptorsBad r active (now (store .entry)) font string count) faultData 0)) ⌝ }
 {
-    let bad = glyphs::char_bad(store, r, active, font, string, count);
+    let bad = strings::char_bad(store, r, active, font, string, count);
     let absent = no_font(font);
     let fault = refuse(absent, FAULT_NO_FONT, refuse(bad, FAULT_DATA, 0));
     draw_fault(active, fault)

@@ -1,9 +1,9 @@
 // The cells of a character as dots: a row, and all rows of a descriptor.
-use crate::descriptor::height_of;
-use crate::descriptor::width_of;
 use draw::Heading;
 use draw::Target;
 use model::Point;
+use strings::height_of;
+use strings::width_of;
 ghost use mathlib.Core.Path.{_≡_};
 ghost use mathlib.Core.Bool.{cond};
 ghost use Prim.Native.Nat.{_≤_, _<_, _^_};

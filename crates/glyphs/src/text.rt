@@ -1,10 +1,10 @@
 // A string, character by character: each drawn at the position, which then moves along the path.
 use crate::cells::glyph;
-use crate::descriptor::descriptor_of;
-use crate::path::pass;
 use draw::Target;
 use model::Point;
 use model::Text;
+use paths::pass;
+use strings::descriptor_of;
 ghost use mathlib.Core.Path.{_≡_};
 ghost use mathlib.Core.Bool.{false};
 ghost use lib.ListN.{length};
@@ -13,7 +13,8 @@ ghost use Rattle.model.specs.Words.{wordAt};
 ghost use Rattle.model.specs.Glyphs as glyphs;
 ghost use Rattle.draw.specs.Canvas.{canvas};
 ghost use Rattle.glyphs.specs.Cells.{GlyphReady};
-ghost use Rattle.glyphs.specs.Strings.{Oriented, Writable, outcome, carriedOut, character};
+ghost use Rattle.paths.specs.Orientation.{Oriented};
+ghost use Rattle.glyphs.specs.Writing.{Writable, outcome, carriedOut, character};
 
 // How far a string has come: the position, whether a character set the trap flag, and how many cells were visible.
 pub struct Written {

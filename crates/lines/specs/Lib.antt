@@ -1,3 +1,2 @@
 -- What the contracts of `lines` cite beside model's definitions.
 pub mod Segments
-pub mod Outlines

@@ -1,4 +1,9 @@
 -- The tests on the array are nested as in the definition.
+use mathlib.Core.Path.{ap, _∙_}
+use mathlib.Core.Bool.{Bool, cond}
+use Prim.Native.Nat.{ℕ}
+use Rattle.model.specs.Numbers.{faultNoBitmap, faultData}
+use Rattle.model.specs.Faults.{noBitmap}
 use borrow.Author.Needs.{needs}
 use Rattle.faults.proofs.array_fault.Statement.{statement}
 use Rattle.faults.proofs.array_fault.Tie as tie
@@ -13,7 +18,10 @@ draw-fault-requires : tie.Need-draw-fault-requires
 draw-fault-requires c κs = search needs
 
 returns : tie.Need-returns
-returns c = cc
+returns c =
+    c .draw-fault .ensures
+    ∙ ap (λ (rest : ℕ). cond (noBitmap (c .before .before .before .args .active)) faultNoBitmap rest)
+    (c .before .refuse .ensures ∙ ap (λ (b : Bool). cond b faultData 0) (c .before .before .array-bad .ensures))
 
 pub array-fault-spec : {M : Type 1} → statement M
 array-fault-spec =

@@ -3,7 +3,7 @@ use Prim.Native.Nat.{_-_, _≤_, _<_}
 use native.Mathlib.Omega.{arith}
 use borrow.Author.Needs.{needs}
 use Rattle.draw.proofs.TargetLaws.{ready-laid}
-use Rattle.glyphs.proofs.StringLaws.{legible-spelt, Along, along-start, along-ready, along-next, along-done}
+use Rattle.glyphs.proofs.WritingLaws.{legible-spelt, Along, along-start, along-ready, along-next, along-done}
 use Rattle.glyphs.proofs.text.write.Statement.{statement}
 use Rattle.glyphs.proofs.text.write.Tie as tie
 

@@ -7,7 +7,7 @@ use Rattle.model.specs.Ranges.{listed}
 use Rattle.model.specs.Coordinates.{coord}
 use Rattle.draw.specs.Canvas.{canvas, paintedAll}
 use Rattle.draw.proofs.CanvasLaws.{listed-length}
-use Rattle.lines.proofs.PaintLaws.{lengths-painted, ready-painted, hits-painted, painted-next}
+use Rattle.draw.proofs.PaintLaws.{lengths-painted, ready-painted, hits-painted, painted-next}
 use Rattle.lines.proofs.SegmentLaws.{runDot, lineDots-level}
 use Rattle.lines.proofs.segments.run.Statement.{statement}
 use Rattle.lines.proofs.segments.run.Tie as tie

@@ -10,7 +10,7 @@ use Rattle.model.proofs.Decisions.{cond-ind}
 use Rattle.draw.specs.Canvas.{paintedAll}
 use Rattle.draw.proofs.CanvasLaws.{listed-length}
 use Rattle.lines.specs.Segments.{traceDot}
-use Rattle.lines.proofs.PaintLaws.{lengths-painted, ready-painted, hits-painted, painted-next}
+use Rattle.draw.proofs.PaintLaws.{lengths-painted, ready-painted, hits-painted, painted-next}
 use Rattle.lines.proofs.SegmentLaws.{Tracing, minorAt-rest, traceDot-drawn}
 use Rattle.lines.proofs.segments.trace.Statement.{statement}
 use Rattle.lines.proofs.segments.trace.Tie as tie

@@ -1,0 +1,2 @@
+-- Laws of an array's lines.
+pub mod ArrayLaws

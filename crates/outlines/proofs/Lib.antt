@@ -1,0 +1,2 @@
+-- Laws of RECT's outline.
+pub mod RectLaws

@@ -1,0 +1,2 @@
+-- Laws of moves along the path.
+pub mod PathLaws

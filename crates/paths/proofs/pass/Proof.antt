@@ -1,0 +1,38 @@
+-- `paths::pass` meets its contract: S keeps the position, else it moves by the pattern of the advance.
+use mathlib.Core.Path.{sym, _∙_}
+use Prim.Native.Nat.{_<_}
+use borrow.Author.Needs.{needs}
+use Rattle.model.specs.Coordinates.{coord}
+use Rattle.model.specs.Glyphs.{advance, passed}
+use Rattle.paths.proofs.PathLaws.{wrap-coord, onPath-pattern}
+use Rattle.paths.proofs.pass.Statement.{statement}
+use Rattle.paths.proofs.pass.Tie as tie
+
+bit-of-requires : tie.Need-bit-of-requires
+bit-of-requires c κs = search needs
+
+returns : tie.Need-returns
+unfolding passed
+returns c = rw (sym (c .before .bit-of .ensures) ∙ c .if1 .taken)
+
+advance-of-requires : tie.Need-advance-of-requires
+advance-of-requires c κs = search needs
+
+on-path-requires : tie.Need-on-path-requires
+on-path-requires c κs = search needs
+
+returns-2 : tie.Need-returns-2
+unfolding passed
+returns-2 c =
+    let d = c .before in
+    let a = d .before .before .before .args in
+    let x : a .p .x < 65536 = search needs in
+    let y : a .p .y < 65536 = search needs in
+    let l : d .advance-of .result < 65536 = search needs in
+    rw (sym (d .before .before .bit-of .ensures) ∙ d .before .if1 .left)
+    (c .on-path .ensures
+    ∙ onPath-pattern (a .p) x y (a .text .path) (coord (d .advance-of .result)) (advance (a .text) (a .head)) (wrap-coord (d .advance-of .result) l ∙ d .advance-of .ensures))
+
+pub pass-spec : {M : Type 1} → statement M
+pass-spec =
+    tie.close (tie.spec bit-of-requires returns advance-of-requires on-path-requires returns-2)

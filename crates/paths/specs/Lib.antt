@@ -1,0 +1,2 @@
+-- What the contracts of `paths` cite beside model's definitions.
+pub mod Orientation

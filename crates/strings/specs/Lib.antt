@@ -1,0 +1,2 @@
+-- What the contracts of `strings` cite beside model's definitions.
+pub mod Reading
