@@ -1,5 +1,2 @@
--- Laws of the calls.
-pub mod CallLaws
-pub mod AcceptedLaws
-pub mod PartLaws
+-- Laws of a run.
 pub mod RanLaws

@@ -11,10 +11,10 @@ use Rattle.model.specs.declared.Reply.the-variants as reply
 use Rattle.model.specs.Runs.{runs}
 use Rattle.model.specs.Calls.{State, run, on, part, inPart, ownRefusal, onPane, ran, rowOf, recordOf, storeOf, callRefusal, exec}
 use Rattle.drawing.specs.Stepping.{Sound, Left, left, leftOf}
-use Rattle.console.specs.declared.Answered.{Answered}
-use Rattle.console.specs.Answers.{answer, turnedAway, withRecord, replaced}
-use Rattle.console.proofs.AcceptedLaws.{admitted}
-use Rattle.console.proofs.CallLaws.{exec-refused-own, exec-accepted}
+use Rattle.answers.specs.declared.Answered.{Answered}
+use Rattle.answers.specs.Answers.{answer, turnedAway, withRecord, replaced}
+use Rattle.answers.proofs.AcceptedLaws.{admitted}
+use Rattle.answers.proofs.CallLaws.{exec-refused-own, exec-accepted}
 
 -- a pane by the row and the record that were read: the store is lent from the row's start up to its start plus its length
 module _ (s : State) (number budget : ℕ) {m : ℕ} (f : m ≡ callRefusal s number) (z : m ≡ 0) (r : Row) (e : r ≡ rowOf s number) (p : Pane) (i : p ≡ recordOf s number) where

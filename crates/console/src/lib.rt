@@ -1,24 +1,82 @@
 // The console: set-up and the calls on a pane. Each takes the console record by value and lends both buffers, whatever they
 // hold, and answers the record after the call with a reply. Reply, record and both buffers are what paper 01 says of them,
-// refused or not: `exec` and `setUp` of model's specs/Calls.antt.
+// refused or not: `exec` and `setUp` of model's specs/Calls.antt. Run stands here, the other calls in the crates named below.
+use answers::record_at;
+use answers::refused;
+use answers::row_at;
+use answers::with_record;
+use checks::refusal::call_refusal;
 use model::Console;
+use model::Pane;
+use model::Ran;
 use model::Reply;
+ghost use mathlib.Core.Path.{_≡_};
+ghost use Prim.Native.Nat.{ℕ};
+ghost use Rattle.model.specs.Calls.{exec, on, ownRefusal};
+ghost use Rattle.model.specs.Calls as calls;
+ghost use Rattle.model.specs.declared.Row.{Row};
+ghost use Rattle.answers.specs.Answers.{state, answer};
 
-mod record; // record.rt: what the calls have in common: a refusal, a pane record replaced, a fresh one, a row or a record read
-mod calls; // calls.rt: one module a call
+// What a caller names: the calls, what they answer, and a fresh pane record.
+pub use answers::Answered;
+pub use answers::fresh;
+pub use pixelcall::pixel;
+pub use recordcalls::clear::clear;
+pub use recordcalls::look::look;
+pub use recordcalls::start::start;
+pub use setup::set_up;
+pub use storecalls::peek::peek;
+pub use storecalls::put::put;
 
-pub use calls::clear::clear;
-pub use calls::look::look;
-pub use calls::peek::peek;
-pub use calls::pixel::pixel;
-pub use calls::put::put;
-pub use calls::run::run;
-pub use calls::set_up::set_up;
-pub use calls::start::start;
-pub use record::fresh;
+// A status that isn't 1.
+const REFUSE_STATUS: u8 = 4;
 
-// What every call answers: the console record after it, and its reply.
-pub struct Answered {
-    pub console: Console,
-    pub reply: Reply,
+// Run's own refusal: 4 if the pane's status isn't 1, or 0.
+fn run_refusal(pane: Pane) -> u8
+    ensures { λ r. ⌜ ((row : Row) (budget : ℕ) → r ≡ ownRefusal row pane (calls.run budget)) ⌝ }
+{
+    if pane.progress.status == 1 {
+        return 0;
+    }
+    REFUSE_STATUS
+}
+
+// Does at most so many commands of the pane with a number; refused 4 if its status isn't 1. Answers the commands done, the status and the
+// fault. The pane's own part of the stores is lent on, and nothing else of it.
+pub fn run(
+    screen: &mut [u8],
+    stores: &mut [u8],
+    console: Console,
+    number: u32,
+    budget: u32,
+) -> Answered
+    ensures { λ r. ⌜ answer (r .console) (r .reply) (now (screen .exit)) (now (stores .exit)) ≡ exec (state console (now (screen .entry)) (now (stores .entry))) (on number (calls.run budget)) ⌝ }
+{
+    let first = call_refusal(screen, stores, console, number);
+    if first != 0 {
+        return refused(console, first);
+    }
+    let k = number as usize;
+    let row = row_at(console, k);
+    let pane = record_at(console, k);
+    let own = run_refusal(pane);
+    if own != 0 {
+        return refused(console, own);
+    }
+    let start = row.start as usize;
+    let end = start + row.len as usize;
+    let s = gp::run(
+        screen,
+        &mut stores[start..end],
+        console.geometry,
+        row,
+        pane,
+        budget,
+    );
+    let reply = Reply::Ran(Ran {
+        commands: s.count,
+        status: s.pane.progress.status,
+        fault: s.pane.progress.fault,
+    });
+    with_record(console, k, s.pane, reply)
 }

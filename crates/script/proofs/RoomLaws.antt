@@ -12,9 +12,9 @@ use Rattle.model.proofs.Decisions.{split}
 use Rattle.fields.specs.Fields.{onFirst, pieces, lineFeed, linesOf}
 use Rattle.parser.specs.Lines.{lineOf}
 use Rattle.printer.proofs.LengthLaws.{reply-length}
-use Rattle.script.specs.declared.session.Outcome.{Outcome}
-use Rattle.script.specs.declared.session.Outcome.the-variants as outcome
-use Rattle.script.specs.Desk.{Desk, obeyed}
+use Rattle.session.specs.declared.Outcome.{Outcome}
+use Rattle.session.specs.declared.Outcome.the-variants as outcome
+use Rattle.session.specs.Desk.{Desk, obeyed}
 use Rattle.script.specs.Scripts.{textOf, printed, empty, mostScript, room, answered}
 
 text-length : (o : Outcome) → length (textOf o) ≤ 96

@@ -12,8 +12,9 @@ use Rattle.fields.proofs.PieceLaws.{linesOf-next, linesOf-none}
 use Rattle.model.proofs.Decisions.{cond-true, cond-false}
 use Rattle.printer.specs.Replies.{malformedText, Wrote}
 use Rattle.printer.proofs.WroteLaws.{Wrote-then, Wrote-none}
-use Rattle.script.specs.declared.session.Session.{Session}
-use Rattle.script.specs.Desk.{Desk, desk, begun, obeyed}
+use Rattle.session.specs.declared.Session.{Session}
+use Rattle.session.specs.declared.Outcome.{Outcome}
+use Rattle.session.specs.Desk.{Moved, desk, moved, begun, obeyed}
 use Rattle.script.specs.Scripts.{textOf, printed, empty, mostScript, answered}
 
 -- a script with lines left: the next, and those after its end
@@ -47,8 +48,8 @@ module _ (script screen₀ stores₀ out₀ : List ℕ) where
       → length out ≡ length out₀
       → from < length script
       → end ≡ from + before lineFeed (drop from script)
-      → desk t screen′ stores′ ≡ obeyed (lineOf (take (end - from) (drop from script))) (desk s screen stores) .desk
-      → Wrote out written (textOf (obeyed (lineOf (take (end - from) (drop from script))) (desk s screen stores) .outcome)) out′ written′
+      → {o : Outcome} → moved (desk t screen′ stores′) o ≡ obeyed (lineOf (take (end - from) (drop from script))) (desk s screen stores)
+      → Wrote out written (textOf o) out′ written′
       → Along t screen′ stores′ out′ written′ (end + 1)
   unfolding printed
   along-next {s} {screen} {stores} {from} {end} a same h e d w =
@@ -57,7 +58,7 @@ module _ (script screen₀ stores₀ out₀ : List ℕ) where
         wrote = Wrote-then (a .wrote) same w;
         rest =
             append-assoc (a .text) _ _
-            ∙ ap (λ (e : Desk). a .text ++ (textOf (obeyed (lineOf (take (end - from) (drop from script))) (desk s screen stores) .outcome) ++ printed (linesOf (drop (end + 1) script)) e)) d
+            ∙ ap (λ (m : Moved). a .text ++ (textOf (m .outcome) ++ printed (linesOf (drop (end + 1) script)) (m .desk))) d
             ∙ ap (λ (ls : List (List ℕ)). a .text ++ printed ls (desk s screen stores)) (sym (lines-next script from end h e))
             ∙ a .rest;
       }

@@ -1,3 +1,2 @@
--- The script program (01, "The script program"): what lines do, and what a script prints.
-pub mod Desk
+-- The script program (01, "The script program"): what a script prints.
 pub mod Scripts

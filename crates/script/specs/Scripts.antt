@@ -4,11 +4,11 @@ use mathlib.Core.Bool.{cond}
 use mathlib.Core.List.{List, [], _∷_, _++_}
 use lib.Dec.{ltb}
 use lib.ListN.{length, replicate}
-use Rattle.script.specs.declared.session.Outcome.{Outcome}
-use Rattle.script.specs.declared.session.Outcome.the-variants as outcome
+use Rattle.session.specs.declared.Outcome.{Outcome}
+use Rattle.session.specs.declared.Outcome.the-variants as outcome
 use Rattle.fields.specs.Fields.{linesOf}
 use Rattle.parser.specs.Lines.{lineOf}
-use Rattle.script.specs.Desk.{Desk, desk, begun, obeyed, mostScreen, mostStores}
+use Rattle.session.specs.Desk.{Desk, desk, begun, obeyed, mostScreen, mostStores}
 use Rattle.printer.specs.Replies.{replyText, malformedText}
 
 -- what a line prints: "?", nothing, or its reply

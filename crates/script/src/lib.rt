@@ -1,9 +1,5 @@
-// The script program on slices: lines in, replies out. Each line is taken apart into what it says, obeyed, and its reply written: specs/ has
-// the definition of each step, and `answered` that of the whole program.
-mod session; // session.rt: what a script has said so far
-mod setting; // setting.rt: the lines before the calls obeyed: s, p and o
-mod call; // call.rt: the lines of the calls obeyed: w, g, r, l and x
-
+// The script program on slices: lines in, replies out. Each line is taken apart into what it says, obeyed, and its reply written: `answered`
+// (specs/Scripts.antt) is the definition of the whole program.
 use session::Outcome;
 use session::Session;
 use session::Step;
@@ -13,18 +9,12 @@ ghost use lib.ListN.{length, take, replicate};
 ghost use Rattle.io.specs.Counts.{Counts};
 ghost use Rattle.fields.specs.Fields.{linesOf};
 ghost use Rattle.parser.specs.Lines.{lineOf, meant};
-ghost use Rattle.script.specs.Desk.{desk, moved, obeyed, begun};
+ghost use Rattle.session.specs.Desk.{desk, moved, obeyed, begun};
 ghost use Rattle.printer.specs.Replies.{Wrote};
 ghost use Rattle.script.specs.Scripts.{textOf, answered, printed, room};
 
 // The longest script.
 const MOST_SCRIPT: usize = 8192;
-
-// What one line leaves: the session, and how much of the replies' buffer is written.
-struct Printed {
-    session: Session,
-    written: usize,
-}
 
 // Obeys the lines of a script and writes the replies to the start of a buffer. Answers how many bytes they take. What the buffer has no room
 // for is left out: nothing, where it has `room`.
@@ -87,50 +77,32 @@ fn lines(
     while from < script.len() {
         let end = fields::line_end(script, from);
         let next = end + 1;
-        let printed = one_line(
-            &script[from..end],
-            screen,
-            stores,
-            scratch,
-            out,
-            session,
-            written,
-        );
-        session = printed.session;
-        written = printed.written;
+        let step = one_line(&script[from..end], screen, stores, scratch, session);
+        let outcome = step.outcome;
+        written = print(out, written, outcome);
+        session = step.session;
         from = next;
     }
     written
 }
 
-// Obeys one line and writes its reply.
+// Takes a line apart and obeys it.
 fn one_line(
     line: &[u8],
     screen: &mut [u8],
     stores: &mut [u8],
     scratch: &mut [u8],
-    out: &mut [u8],
     session: Session,
-    written: usize,
-) -> Printed
+) -> Step
     requires { ⌜ length (now line) ≤ 8192 ⌝ }
     requires { ⌜ 4096 ≤ length (now scratch) ⌝ }
-    requires { ⌜ written ≤ length (now out) ⌝ }
-    ensures { λ r. ⌜ desk (r .session) (now (screen .exit)) (now (stores .exit)) ≡ obeyed (lineOf (now (line .entry))) (desk session (now (screen .entry)) (now (stores .entry))) .desk ⌝ }
-    ensures { λ r. ⌜ Wrote (now (out .entry)) written (textOf (obeyed (lineOf (now (line .entry))) (desk session (now (screen .entry)) (now (stores .entry))) .outcome)) (now (out .exit)) (r .written) ⌝ }
+    ensures { λ r. ⌜ moved (desk (r .session) (now (screen .exit)) (now (stores .exit))) (r .outcome) ≡ obeyed (lineOf (now (line .entry))) (desk session (now (screen .entry)) (now (stores .entry))) ⌝ }
 {
     let said = parser::parse(line, scratch);
-    let step = obey(said, screen, stores, scratch, session);
-    let outcome = step.outcome;
-    let after = print(out, written, outcome);
-    let next = step.session;
-    Printed {
-        session: next,
-        written: after,
-    }
+    obey(said, screen, stores, scratch, session)
 }
 
-// Obeys a line. Before an accepted `o` only `s`, `p` and `o` are taken, after it only the calls.
+// Obeys what a line says. Before an accepted `o` only `s`, `p` and `o` are taken, after it only the calls.
 fn obey(
     said: parser::Line,
     screen: &mut [u8],
@@ -141,7 +113,7 @@ fn obey(
     ensures { λ r. ⌜ moved (desk (r .session) (now (screen .exit)) (now (stores .exit))) (r .outcome) ≡ obeyed (meant said (now (scratch .entry))) (desk session (now (screen .entry)) (now (stores .entry))) ⌝ }
 {
     if session.opened {
-        return call::obey(said, screen, stores, scratch, session);
+        return calling::obey(said, screen, stores, scratch, session);
     }
     setting::obey(said, screen, stores, session)
 }

@@ -3,7 +3,7 @@ use mathlib.Core.Path.{sym, ap, _∙_}
 use native.Mathlib.Omega.{arith}
 use lib.ListN.{length, take}
 use denote.Ref.{now}
-use Rattle.script.proofs.DeskLaws.{counts}
+use Rattle.session.proofs.DeskLaws.{counts}
 use Rattle.script.proofs.ScriptLaws.{answered-long, answered-lines}
 use Rattle.script.proofs.RoomLaws.{answered-whole}
 use borrow.Author.Needs.{needs}

@@ -3,7 +3,7 @@ use mathlib.Core.Path.{_≡_}
 use Prim.Native.Nat.{_-_}
 use native.Mathlib.Omega.{arith}
 use lib.ListN.{length}
-use Rattle.script.proofs.DeskLaws.{counts}
+use Rattle.session.proofs.DeskLaws.{counts}
 use Rattle.script.proofs.ScriptLaws.{Along, along-none, along-next, along-all}
 use borrow.Author.Needs.{needs}
 use Rattle.script.proofs.lines.Statement.{statement}
@@ -41,19 +41,23 @@ part-one-line-end c = search needs
 one-line-requires : tie.Need-one-line-requires Inv-loop μ-loop
 one-line-requires c κs = search needs
 
+print-requires : tie.Need-print-requires Inv-loop μ-loop
+print-requires c κs = search needs
+
 loop-less : tie.Need-loop-less Inv-loop μ-loop
 loop-less c = search needs
 
 loop-again : tie.Need-loop-again Inv-loop μ-loop
 loop-again c =
-    let step = c .before .before .before .before .before .before .before .before .before in
-    let line = step .before .before .before .before .before .before in
+    let print = c .before .before .before in
+    let step = print .before .before .before .before .before .before .before .before in
+    let line = step .before .before .before .before .before in
     let l = line .before .before in (
       search needs,
       search needs,
       search needs,
       search needs,
-      along-next _ _ _ _ (l .loop .inv .4) (l .loop .inv .3) (line .before .loop-test .taken) (line .line-end .ensures .1) (step .one-line .ensures .0) (step .one-line .ensures .1),
+      along-next _ _ _ _ (l .loop .inv .4) (l .loop .inv .3) (line .before .loop-test .taken) (line .line-end .ensures .1) (step .one-line .ensures) (print .print .ensures),
     )
 
 same-length : tie.Need-same-length Inv-loop μ-loop
@@ -87,6 +91,7 @@ lines-spec =
     part-one-line-start
     part-one-line-end
     one-line-requires
+    print-requires
     loop-less
     loop-again
     same-length

@@ -1,0 +1,103 @@
+-- What `exec` answers to a call on a pane: refused by what is common to all calls, refused by the call's own check, or accepted; and what
+-- an accepted call leaves that replaces the record, the store, or nothing.
+use mathlib.Core.Path.{_≡_, refl, sym, ap, _∙_}
+use mathlib.Core.List.{List, _++_}
+use Prim.Native.Nat.{ℕ}
+use lib.ListN.{take, drop, take-append-drop}
+use lib.Seq.{set-getD}
+use borrow.Author.Tests.{eq-eqb, ne-eqb}
+use Rattle.model.specs.declared.Console.{Console}
+use Rattle.model.specs.declared.Pane.{Pane}
+use Rattle.model.specs.declared.Reply.{Reply}
+use Rattle.model.specs.declared.Row.{Row}
+use Rattle.model.specs.Record.{noPane}
+use Rattle.model.specs.Calls.{State, Call, on, part, inPart, ownRefusal, Outcome, outcome, onPane, rowOf, recordOf, storeOf, setupRefusal, callRefusal, refusal, withPane, accepted, refused, exec, setUp}
+use Rattle.model.proofs.Decisions.{cond-true, cond-false}
+use Rattle.answers.specs.declared.Answered.{Answered}
+use Rattle.answers.specs.Answers.{answer, turnedAway, withRecord, replaced}
+
+-- ## Refused
+
+-- the answer of a call that was turned away
+turned-away : (s : State) (n : ℕ) (r : Answered) → r ≡ turnedAway (s .console) n → answer (r .console) (r .reply) (s .screen) (s .stores) ≡ refused s n
+turned-away s n r e = ap (λ (r : Answered). answer (r .console) (r .reply) (s .screen) (s .stores)) e
+
+pub setUp-refused : (s : State) (n : ℕ) (r : Answered) → r ≡ turnedAway (s .console) n → n ≡ setupRefusal s → (n ≡ 0 → ⊥)
+    → answer (r .console) (r .reply) (s .screen) (s .stores) ≡ setUp s
+unfolding setUp
+setUp-refused s n r e q h = turned-away s n r e ∙ ap (refused s) q ∙ sym (cond-false _ _ (ne-eqb (setupRefusal s) 0 (λ z. h (q ∙ z))))
+
+module _ (s : State) (number : ℕ) (call : Call) where
+  exec-refusal : (n : ℕ) (r : Answered) → r ≡ turnedAway (s .console) n → n ≡ refusal s (on number call) → (n ≡ 0 → ⊥)
+      → answer (r .console) (r .reply) (s .screen) (s .stores) ≡ exec s (on number call)
+  unfolding exec
+  exec-refusal n r e q h =
+      turned-away s n r e ∙ ap (refused s) q ∙ sym (cond-false _ _ (ne-eqb (refusal s (on number call)) 0 (λ z. h (q ∙ z))))
+
+  -- by what is common to all calls
+  pub exec-refused : (n : ℕ) (r : Answered) → r ≡ turnedAway (s .console) n → n ≡ callRefusal s number → (n ≡ 0 → ⊥)
+      → answer (r .console) (r .reply) (s .screen) (s .stores) ≡ exec s (on number call)
+  unfolding refusal
+  exec-refused n r e q h = exec-refusal n r e (q ∙ sym (cond-false _ _ (ne-eqb (callRefusal s number) 0 (λ z. h (q ∙ z))))) h
+
+  module _ {m : ℕ} (f : m ≡ callRefusal s number) (z : m ≡ 0) where
+    refusal-own : refusal s (on number call) ≡ ownRefusal (rowOf s number) (recordOf s number) call
+    unfolding refusal
+    refusal-own = cond-true _ _ (eq-eqb (callRefusal s number) 0 (sym f ∙ z))
+
+    -- by the call's own check
+    pub exec-refused-own : (n : ℕ) (r : Answered) → r ≡ turnedAway (s .console) n → n ≡ ownRefusal (rowOf s number) (recordOf s number) call → (n ≡ 0 → ⊥)
+        → answer (r .console) (r .reply) (s .screen) (s .stores) ≡ exec s (on number call)
+    exec-refused-own n r e q h = exec-refusal n r e (q ∙ sym refusal-own) h
+
+-- the call's own check, made with the row that was read
+pub own-by-row : (p : Pane) (call : Call) {n : ℕ} {r q : Row} → r ≡ q → ((p : Pane) → n ≡ ownRefusal r p call) → n ≡ ownRefusal q p call
+own-by-row p call e g = g p ∙ ap (λ (r : Row). ownRefusal r p call) e
+
+-- ## Accepted
+
+part-kept : (l : List ℕ) (at n : ℕ) → inPart l at n (part l at n) ≡ l
+unfolding inPart part
+part-kept l at n = ap (λ (m : List ℕ). take at l ++ m) (take-append-drop n (drop at l)) ∙ take-append-drop at l
+
+record-kept : (s : State) (number : ℕ) → withRecord (s .console) number (recordOf s number) ≡ s .console
+unfolding recordOf
+record-kept s number =
+    ap (λ (panes : List Pane). record { geometry = s .console .geometry; count = s .console .count; rows = s .console .rows; panes = panes })
+    (set-getD (s .console .panes) number noPane)
+
+module _ (s : State) (number : ℕ) (call : Call) {m n : ℕ} (f : m ≡ callRefusal s number) (z : m ≡ 0)
+    (g : n ≡ ownRefusal (rowOf s number) (recordOf s number) call) (y : n ≡ 0) where
+  -- by what the call makes of the pane
+  pub exec-accepted : (o : Outcome) → onPane (s .console .geometry) (rowOf s number) (recordOf s number) (s .screen) (storeOf s number) call ≡ o
+      → (d : Console) (a : Reply) (screen stores : List ℕ)
+      → d ≡ withRecord (s .console) number (o .pane) → a ≡ o .reply → screen ≡ o .screen
+      → stores ≡ inPart (s .stores) (rowOf s number .start) (rowOf s number .len) (o .store)
+      → answer d a screen stores ≡ exec s (on number call)
+  unfolding exec accepted withPane
+  exec-accepted o e d a screen stores p q u v =
+      (λ i. answer (p i) (q i) (u i) (v i)) ∙ ap (withPane s number) (sym e) ∙ sym (cond-true _ _ (eq-eqb (refusal s (on number call)) 0 (refusal-own s number call f z ∙ sym g ∙ y)))
+
+  -- another record, all else kept
+  pub exec-record : (p : Pane) (a : Reply)
+      → onPane (s .console .geometry) (rowOf s number) (recordOf s number) (s .screen) (storeOf s number) call ≡ outcome a p (s .screen) (storeOf s number)
+      → (b : Answered) (q : Pane) → b ≡ replaced (s .console) number q a → q ≡ p
+      → answer (b .console) (b .reply) (s .screen) (s .stores) ≡ exec s (on number call)
+  unfolding storeOf
+  exec-record p a e b q h i =
+      exec-accepted _ e (b .console) (b .reply) _ _ (ap (λ (b : Answered). b .console) h ∙ ap (withRecord (s .console) number) i) (ap (λ (b : Answered). b .reply) h) refl (sym (part-kept (s .stores) (rowOf s number .start) (rowOf s number .len)))
+
+  -- another store, all else kept
+  pub exec-store : (store : List ℕ) (a : Reply)
+      → onPane (s .console .geometry) (rowOf s number) (recordOf s number) (s .screen) (storeOf s number) call ≡ outcome a (recordOf s number) (s .screen) store
+      → (stores : List ℕ) → stores ≡ inPart (s .stores) (rowOf s number .start) (rowOf s number .len) store
+      → answer (s .console) a (s .screen) stores ≡ exec s (on number call)
+  exec-store store a e stores q = exec-accepted _ e _ a _ stores (sym (record-kept s number)) refl refl q
+
+  -- a value, all kept
+  pub exec-kept : (a : Reply)
+      → onPane (s .console .geometry) (rowOf s number) (recordOf s number) (s .screen) (storeOf s number) call ≡ outcome a (recordOf s number) (s .screen) (storeOf s number)
+      → (b : Reply) → b ≡ a
+      → answer (s .console) b (s .screen) (s .stores) ≡ exec s (on number call)
+  unfolding storeOf
+  exec-kept a e b q = exec-accepted _ e _ b _ _ (sym (record-kept s number)) q refl (sym (part-kept (s .stores) (rowOf s number .start) (rowOf s number .len)))

@@ -1,0 +1,2 @@
+-- Laws of pixel.
+pub mod PixelLaws

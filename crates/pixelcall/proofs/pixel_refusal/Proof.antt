@@ -1,0 +1,15 @@
+-- Pixel's own refusal, as `ownRefusal` has it.
+use Rattle.model.specs.Calls.{ownRefusal}
+use borrow.Author.Needs.{needs}
+use Rattle.pixelcall.proofs.pixel_refusal.Statement.{statement}
+use Rattle.pixelcall.proofs.pixel_refusal.Tie as tie
+
+refuse-requires : tie.Need-refuse-requires
+refuse-requires c κs = search needs
+
+returns : tie.Need-returns
+unfolding ownRefusal
+returns c = λ p. c .refuse .ensures
+
+pub pixel-refusal-spec : {M : Type 1} → statement M
+pixel-refusal-spec = tie.close (tie.spec refuse-requires returns)

@@ -1,0 +1,54 @@
+-- Clear makes the record of the pane fresh, and keeps everything else.
+use mathlib.Core.Path.{_≡_, refl}
+use Prim.Native.Nat.{ℕ}
+use Rattle.model.specs.declared.Pane.{Pane}
+use Rattle.model.specs.declared.Reply.the-variants as reply
+use Rattle.model.specs.Record.{fresh}
+use Rattle.model.specs.Calls.{State, clear, on, ownRefusal, onPane, callRefusal, exec}
+use Rattle.answers.specs.declared.Answered.{Answered}
+use Rattle.answers.specs.Answers.{answer, replaced}
+use Rattle.answers.proofs.CallLaws.{exec-refused, exec-record}
+use Rattle.answers.proofs.AcceptedLaws.{admitted}
+use borrow.Author.Needs.{needs}
+use Rattle.recordcalls.proofs.clear.clear.Statement.{statement}
+use Rattle.recordcalls.proofs.clear.clear.Tie as tie
+
+-- clear has no refusal of its own: a call that is not refused leaves a fresh record
+cleared : (s : State) (number : ℕ) {m : ℕ} → m ≡ callRefusal s number → m ≡ 0 → (b : Answered) (p : Pane) → b ≡ replaced (s .console) number p reply.Done → p ≡ fresh
+    → answer (b .console) (b .reply) (s .screen) (s .stores) ≡ exec s (on number clear)
+unfolding ownRefusal onPane
+cleared s number f z b p h i = exec-record s number clear f z refl refl _ _ refl b p h i
+
+call-refusal-requires : tie.Need-call-refusal-requires
+call-refusal-requires c κs = search needs
+
+refused-requires : tie.Need-refused-requires
+refused-requires c κs = search needs
+
+returns : tie.Need-returns
+returns c = exec-refused _ _ _ _ _ (c .refused .ensures) (c .before .before .call-refusal .ensures) (c .before .if1 .taken)
+
+fresh-requires : tie.Need-fresh-requires
+fresh-requires c κs = search needs
+
+with-record-requires : tie.Need-with-record-requires
+with-record-requires c κs =
+    let d = c .before in
+    let i = admitted _ _ (d .before .call-refusal .ensures) (d .if1 .left) .index in
+    search needs
+
+returns-2 : tie.Need-returns-2
+returns-2 c =
+    let d = c .before .before in
+    cleared _ _ (d .before .call-refusal .ensures) (d .if1 .left) _ _ (c .with-record .ensures) (c .before .fresh .ensures)
+
+pub clear-spec : {M : Type 1} → statement M
+clear-spec =
+    tie.close
+    (tie.spec
+    call-refusal-requires
+    refused-requires
+    returns
+    fresh-requires
+    with-record-requires
+    returns-2)

@@ -1,0 +1,24 @@
+// Clear: a pane record made fresh.
+use answers::Answered;
+use answers::fresh;
+use answers::refused;
+use answers::with_record;
+use checks::refusal::call_refusal;
+use model::Console;
+use model::Reply;
+ghost use mathlib.Core.Path.{_≡_};
+ghost use Rattle.model.specs.Calls.{exec, on};
+ghost use Rattle.model.specs.Calls as calls;
+ghost use Rattle.answers.specs.Answers.{state, answer};
+
+// Makes the record of the pane with a number fresh; store and pixels are kept; no refusal of its own.
+pub fn clear(screen: &[u8], stores: &[u8], console: Console, number: u32) -> Answered
+    ensures { λ r. ⌜ answer (r .console) (r .reply) (now (screen .entry)) (now (stores .entry)) ≡ exec (state console (now (screen .entry)) (now (stores .entry))) (on number calls.clear) ⌝ }
+{
+    let first = call_refusal(screen, stores, console, number);
+    if first != 0 {
+        return refused(console, first);
+    }
+    let k = number as usize;
+    with_record(console, k, fresh(), Reply::Done)
+}

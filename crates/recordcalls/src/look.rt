@@ -1,0 +1,45 @@
+// Look: what a pane shows of itself.
+use answers::Answered;
+use answers::record_at;
+use answers::refused;
+use checks::refusal::call_refusal;
+use model::Console;
+use model::Pane;
+use model::Reply;
+use model::View;
+ghost use mathlib.Core.Path.{_≡_};
+ghost use Rattle.model.specs.Calls.{exec, on, shown};
+ghost use Rattle.model.specs.Calls as calls;
+ghost use Rattle.answers.specs.Answers.{state, answer};
+
+// Status, fault, pointer, position, pick and trap flag of a pane record.
+fn shown(pane: Pane) -> Reply
+    ensures { λ r. ⌜ r ≡ shown pane ⌝ }
+{
+    let progress = pane.progress;
+    let position = pane.position;
+    let flags = pane.flags;
+    let view = View {
+        progress,
+        position,
+        pick: flags.pick,
+        trap: flags.trap,
+    };
+    Reply::Seen(view)
+}
+
+// Shows the record of the pane with a number; changes nothing, and has no refusal of its own.
+pub fn look(screen: &[u8], stores: &[u8], console: Console, number: u32) -> Answered
+    ensures { λ r. ⌜ answer (r .console) (r .reply) (now (screen .entry)) (now (stores .entry)) ≡ exec (state console (now (screen .entry)) (now (stores .entry))) (on number calls.look) ⌝ }
+{
+    let first = call_refusal(screen, stores, console, number);
+    if first != 0 {
+        return refused(console, first);
+    }
+    let k = number as usize;
+    let pane = record_at(console, k);
+    Answered {
+        console,
+        reply: shown(pane),
+    }
+}

@@ -1,0 +1,2 @@
+-- Laws of the lines before an accepted `o`.
+pub mod SettingLaws

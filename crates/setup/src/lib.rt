@@ -1,0 +1,29 @@
+// Set-up: the table is checked, and all eight pane records made fresh. Crate `console` has it under one name with the calls.
+use answers::Answered;
+use answers::fresh;
+use answers::refused;
+use model::Console;
+use model::Reply;
+use tables::setup_refusal;
+ghost use mathlib.Core.Path.{_≡_};
+ghost use Rattle.model.specs.Calls.{setUp};
+ghost use Rattle.answers.specs.Answers.{state, answer};
+
+// Accepts geometry and table with eight fresh pane records, whatever the record lent has for them; refused 6 to 11. Both
+// buffers keep every bit.
+pub fn set_up(screen: &[u8], stores: &[u8], console: Console) -> Answered
+    ensures { λ r. ⌜ answer (r .console) (r .reply) (now (screen .entry)) (now (stores .entry)) ≡ setUp (state console (now (screen .entry)) (now (stores .entry))) ⌝ }
+{
+    let first = setup_refusal(screen.len(), stores.len(), console);
+    if first != 0 {
+        return refused(console, first);
+    }
+    let pane = fresh();
+    let panes = [pane; 8];
+    let mut next = console;
+    next.panes = panes;
+    Answered {
+        console: next,
+        reply: Reply::Done,
+    }
+}

@@ -1,0 +1,111 @@
+-- Put writes into the pane's part of the stores, which is lent on, and keeps everything else.
+use native.Mathlib.Omega.{arith}
+use denote.Ref.{now}
+use Rattle.model.specs.Calls.{rowOf, recordOf, part, inPart}
+use Rattle.answers.proofs.CallLaws.{exec-refused, exec-refused-own, own-by-row}
+use Rattle.answers.proofs.AcceptedLaws.{admitted, room}
+use Rattle.storecalls.proofs.StoreLaws.{put-room, exec-put}
+use Rattle.storecalls.proofs.PartLaws.{lent-length}
+use borrow.Author.Needs.{needs}
+use Rattle.storecalls.proofs.put.put.Statement.{statement}
+use Rattle.storecalls.proofs.put.put.Tie as tie
+
+call-refusal-requires : tie.Need-call-refusal-requires
+call-refusal-requires c κs = search needs
+
+refused-requires : tie.Need-refused-requires
+refused-requires c κs = search needs
+
+same-length : tie.Need-same-length
+same-length c = search needs
+
+returns : tie.Need-returns
+returns c = exec-refused _ _ _ _ _ (c .refused .ensures) (c .before .before .call-refusal .ensures) (c .before .if1 .taken)
+
+row-at-requires : tie.Need-row-at-requires
+row-at-requires c κs = admitted _ _ (c .before .call-refusal .ensures) (c .if1 .left) .index
+
+put-refusal-requires : tie.Need-put-refusal-requires
+put-refusal-requires c κs = search needs
+
+refused-requires-2 : tie.Need-refused-requires-2
+refused-requires-2 c κs = search needs
+
+same-length-2 : tie.Need-same-length-2
+same-length-2 c = search needs
+
+returns-2 : tie.Need-returns-2
+unfolding rowOf recordOf
+returns-2 c =
+    let d = c .before .before .before .before in
+    let w = c .before .before in
+    exec-refused-own _ _ _ (d .before .call-refusal .ensures) (d .if1 .left) _ _
+    (c .refused2 .ensures) (own-by-row _ _ (w .before .row-at .ensures) (w .put-refusal .ensures)) (c .before .if2 .taken)
+
+cast-start : tie.Need-cast-start
+cast-start c = search needs
+
+cast-end : tie.Need-cast-end
+cast-end c = search needs
+
+add-end : tie.Need-add-end
+add-end c = search needs
+
+sub-write : tie.Need-sub-write
+sub-write c = search needs
+
+part-write-start : tie.Need-part-write-start
+part-write-start c = search needs
+
+part-write-end : tie.Need-part-write-end
+unfolding rowOf
+part-write-end c =
+    let r = c .before .before .before .before in
+    let d = r .before in
+    room _ _ (d .before .call-refusal .ensures) (d .if1 .left) _ (r .row-at .ensures)
+
+write-requires : tie.Need-write-requires
+unfolding rowOf
+write-requires c κs =
+    let w = c .before .before .before in
+    let r = w .before .before in
+    let d = r .before in
+    let h = room _ _ (d .before .call-refusal .ensures) (d .if1 .left) _ (r .row-at .ensures) in
+    let l = put-room _ _ _ (w .before .put-refusal .ensures) (w .if2 .left) in
+    let a = d .before .before .before .before .before .before .args in
+    let row = r .row-at .result in
+    omega (arith, lent-length (now (a .stores)) (row .start) (row .len) h)
+
+same-length-3 : tie.Need-same-length-3
+same-length-3 c = search needs
+
+returns-3 : tie.Need-returns-3
+unfolding rowOf part inPart
+returns-3 c =
+    let w = c .before .before .before .before .before .before in
+    let r = w .before .before in
+    let d = r .before in
+    exec-put _ _ _ _ (d .before .call-refusal .ensures) (d .if1 .left) _ (r .row-at .ensures) (w .before .put-refusal .ensures) (w .if2 .left) _ (c .before .before .write .ensures)
+
+pub put-spec : {M : Type 1} → statement M
+put-spec =
+    tie.close
+    (tie.spec
+    call-refusal-requires
+    refused-requires
+    same-length
+    returns
+    row-at-requires
+    put-refusal-requires
+    refused-requires-2
+    same-length-2
+    returns-2
+    cast-start
+    cast-end
+    add-end
+    sub-write
+    part-write-start
+    part-write-end
+    write-requires
+    same-length-3
+    returns-3)

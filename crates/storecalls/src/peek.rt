@@ -1,0 +1,44 @@
+// Peek: one byte of a pane's store.
+use answers::Answered;
+use answers::REFUSE_END;
+use answers::refused;
+use answers::row_at;
+use checks::refusal::call_refusal;
+use model::Console;
+use model::Reply;
+use model::Row;
+use tables::refuse;
+ghost use mathlib.Core.Path.{_≡_};
+ghost use Rattle.model.specs.Calls.{exec, on, ownRefusal};
+ghost use Rattle.model.specs.Calls as calls;
+ghost use Rattle.model.specs.declared.Pane.{Pane};
+ghost use Rattle.answers.specs.Answers.{state, answer};
+
+// Peek's own refusal: 2 if the address is not below the store's length, or 0.
+fn peek_refusal(row: Row, address: u32) -> u8
+    ensures { λ r. ⌜ ((p : Pane) → r ≡ ownRefusal row p (calls.peek address)) ⌝ }
+{
+    refuse(row.len <= address, REFUSE_END, 0)
+}
+
+// Answers the byte at an address of the store of the pane with a number; changes nothing; refused 2 past the store's end.
+pub fn peek(screen: &[u8], stores: &[u8], console: Console, number: u32, address: u32) -> Answered
+    ensures { λ r. ⌜ answer (r .console) (r .reply) (now (screen .entry)) (now (stores .entry)) ≡ exec (state console (now (screen .entry)) (now (stores .entry))) (on number (calls.peek address)) ⌝ }
+{
+    let first = call_refusal(screen, stores, console, number);
+    if first != 0 {
+        return refused(console, first);
+    }
+    let k = number as usize;
+    let row = row_at(console, k);
+    let own = peek_refusal(row, address);
+    if own != 0 {
+        return refused(console, own);
+    }
+    let at = row.start as usize + address as usize;
+    let value = stores[at];
+    Answered {
+        console,
+        reply: Reply::Value(value),
+    }
+}
