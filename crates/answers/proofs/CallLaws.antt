@@ -13,6 +13,7 @@ use Rattle.model.specs.declared.Row.{Row}
 use Rattle.model.specs.Record.{noPane}
 use Rattle.model.specs.Calls.{State, Call, on, part, inPart, ownRefusal, Outcome, outcome, onPane, rowOf, recordOf, storeOf, setupRefusal, callRefusal, refusal, withPane, accepted, refused, exec, setUp}
 use Rattle.model.proofs.Decisions.{cond-true, cond-false}
+use Rattle.model.proofs.CallLaws as calls
 use Rattle.answers.specs.declared.Answered.{Answered}
 use Rattle.answers.specs.Answers.{answer, turnedAway, withRecord, replaced}
 
@@ -30,9 +31,7 @@ setUp-refused s n r e q h = turned-away s n r e ∙ ap (refused s) q ∙ sym (co
 module _ (s : State) (number : ℕ) (call : Call) where
   exec-refusal : (n : ℕ) (r : Answered) → r ≡ turnedAway (s .console) n → n ≡ refusal s (on number call) → (n ≡ 0 → ⊥)
       → answer (r .console) (r .reply) (s .screen) (s .stores) ≡ exec s (on number call)
-  unfolding exec
-  exec-refusal n r e q h =
-      turned-away s n r e ∙ ap (refused s) q ∙ sym (cond-false _ _ (ne-eqb (refusal s (on number call)) 0 (λ z. h (q ∙ z))))
+  exec-refusal n r e q h = turned-away s n r e ∙ ap (refused s) q ∙ sym (calls.exec-refused s (on number call) (λ z. h (q ∙ z)))
 
   -- by what is common to all calls
   pub exec-refused : (n : ℕ) (r : Answered) → r ≡ turnedAway (s .console) n → n ≡ callRefusal s number → (n ≡ 0 → ⊥)
@@ -74,9 +73,9 @@ module _ (s : State) (number : ℕ) (call : Call) {m n : ℕ} (f : m ≡ callRef
       → d ≡ withRecord (s .console) number (o .pane) → a ≡ o .reply → screen ≡ o .screen
       → stores ≡ inPart (s .stores) (rowOf s number .start) (rowOf s number .len) (o .store)
       → answer d a screen stores ≡ exec s (on number call)
-  unfolding exec accepted withPane
+  unfolding accepted withPane
   exec-accepted o e d a screen stores p q u v =
-      (λ i. answer (p i) (q i) (u i) (v i)) ∙ ap (withPane s number) (sym e) ∙ sym (cond-true _ _ (eq-eqb (refusal s (on number call)) 0 (refusal-own s number call f z ∙ sym g ∙ y)))
+      (λ i. answer (p i) (q i) (u i) (v i)) ∙ ap (withPane s number) (sym e) ∙ sym (calls.exec-accepted s (on number call) (refusal-own s number call f z ∙ sym g ∙ y))
 
   -- another record, all else kept
   pub exec-record : (p : Pane) (a : Reply)

@@ -1,3 +1,3 @@
--- Laws that belong to no one function.
+-- Laws of cells, and of a string drawn.
 pub mod CellLaws
 pub mod WritingLaws

@@ -15,9 +15,9 @@ use Rattle.model.specs.Numbers.{refuseRecord}
 use Rattle.model.specs.Bitmaps.{paneSurface, pixels}
 use Rattle.model.specs.Setup.{paneBad}
 use Rattle.model.specs.Calls.{State, Call, Request, on, Answer, Outcome, recordOf, storeOf, part, ownRefusal, callRefusal, refusal, withPane, onPane, accepted, exec}
-use Rattle.model.proofs.CallLaws.{onPane-agree}
+use Rattle.model.proofs.CallLaws.{onPane-agree, exec-accepted, exec-refused}
 use Rattle.isolation.proofs.States.{Share, shareOf, On, on-fits}
-use Rattle.isolation.proofs.Frame.{taken, exec-accepted, exec-refused, outcomeOf, accepted-record, accepted-store}
+use Rattle.isolation.proofs.Frame.{taken, outcomeOf, accepted-record, accepted-store}
 
 -- what the pane gets of an answer: the reply, and its share of what is left
 pub record Told : Type 0 where

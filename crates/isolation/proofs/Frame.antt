@@ -9,7 +9,7 @@ use native.Mathlib.Decide.{decLt, ℕ-discrete}
 use lib.ListN.{length, getD, length-set}
 use lib.Seq.{getD-set-same, getD-set-other}
 use lib.Dec.{eqb, leb}
-use borrow.Author.Tests.{leb-false, eqb-true, eqb-false, eq-eqb, ne-eqb}
+use borrow.Author.Tests.{leb-false, eqb-true, eqb-false}
 use Rattle.model.specs.declared.Geometry.{Geometry}
 use Rattle.model.specs.declared.Row.{Row}
 use Rattle.model.specs.Ranges.{orElse}
@@ -49,14 +49,6 @@ taken s c e =
     let a = orElse-none (callRefusal s (c .number)) (ownRefusal (rowOf s (c .number)) (recordOf s (c .number)) (c .call)) e in
     let b = orElse-none (setupRefusal s) (paneRefusal s (c .number)) (a .0) in
     record { here = leb-false _ _ (cond-none (leb (s .console .count) (c .number)) 0 _ (b .1) .0); own = a .1 }
-
-pub exec-accepted : (s : State) (c : Request) → refusal s c ≡ 0 → exec s c ≡ accepted s c
-unfolding exec
-exec-accepted s c e = cond-true _ _ (eq-eqb (refusal s c) 0 e)
-
-pub exec-refused : (s : State) (c : Request) → (refusal s c ≡ 0 → ⊥) → exec s c ≡ refused s (refusal s c)
-unfolding exec
-exec-refused s c e = cond-false _ _ (ne-eqb (refusal s c) 0 e)
 
 pub exec-cases {ℓ} : (s : State) (c : Request) (P : Answer → Type ℓ) → ((n : ℕ) → P (refused s n)) → (Taken s c → P (accepted s c)) → P (exec s c)
 unfolding exec

@@ -123,8 +123,8 @@ pub record Untouched (a : State) (cs : List Request) : Type 0 where
 -- ## The demand
 
 -- For the code: each call of the console answers and leaves, refused or not, what exec says of the record and buffers that it was lent, and
--- set-up what setUp says (the contracts of crates/console/src/calls, without a requires). So a list of calls made on the code, each lent what
--- the one before left, goes through the states of `after` and gets the replies of `repliesOn`, and this record speaks of it.
+-- set-up what setUp says (the contracts of the calls that crates/console/src/lib.rt names, without a requires). So a list of calls made on the code,
+-- each lent what the one before left, goes through the states of `after` and gets the replies of `repliesOn`, and this record speaks of it.
 pub record Isolation : Type 0 where
   pub two-runs : (g : Geometry) (k : ℕ) (r : Row) (a b : State) (cs ds : List Request) → TwoRuns g k r a b cs ds → Alike g k r a b cs ds
   -- "And after every such list on any console that set-up accepted"

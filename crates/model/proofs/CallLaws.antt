@@ -1,9 +1,9 @@
--- A call on a pane: what it keeps, and that its outcome depends only on the pane's record, pixels and store.
+-- A call on a pane: what it keeps, that its outcome depends only on the pane's record, pixels and store, and when it is refused.
 use mathlib.Core.Path.{_≡_, refl, ap, ap₂, _∙_, subst}
 use mathlib.Core.List.{List, [], _∷_}
 use Prim.Native.Nat.{ℕ, zero, suc, _+_}
 use native.Mathlib.Omega.{arith}
-use borrow.Author.Tests.{ltb-false}
+use borrow.Author.Tests.{ltb-false, eq-eqb, ne-eqb}
 use lib.ListN.{length}
 use lib.Dec.{ltb, eqb}
 use Rattle.model.specs.Numbers.{statusRunning}
@@ -24,8 +24,8 @@ use Rattle.model.specs.Faults.{faultOf}
 use Rattle.model.specs.Effects.{Effect, becomes, draws}
 use Rattle.model.specs.Steps.{Plan, onStore, planOf, judged, obey, step}
 use Rattle.model.specs.Runs.{Finish, idle, carried, stepped, follow, runs}
-use Rattle.model.specs.Calls.{Call, put, start, run, look, pixel, peek, clear, Outcome, outcome, ran, ownRefusal, onPane}
-use Rattle.model.proofs.Decisions.{cond-none, cond-ind, cond-rel}
+use Rattle.model.specs.Calls.{Call, put, start, run, look, pixel, peek, clear, Outcome, outcome, ran, ownRefusal, onPane, State, Request, refusal, accepted, refused, exec}
+use Rattle.model.proofs.Decisions.{cond-none, cond-true, cond-false, cond-ind, cond-rel}
 use Rattle.model.proofs.FieldLaws.{length-put}
 use Rattle.model.proofs.PartLaws.{length-inPart}
 use Rattle.model.proofs.PixelLaws.{Fits, Framed, fits-framed, framed-refl, framed-trans, changes-frame, changes-agree}
@@ -174,3 +174,13 @@ module _ (g : Geometry) (r : Row) (p : Pane) where
     onPane-agree (pixel x y) = record { reply = ap (λ (see : ℕ → ℕ → ℕ). reply.Value (see x y)) e; pane = refl; store = refl; shown = e }
     onPane-agree (peek a) = same-screen _ _ _
     onPane-agree clear = same-screen _ _ _
+
+-- ## A call is refused, or accepted
+
+pub exec-accepted : (s : State) (c : Request) → refusal s c ≡ 0 → exec s c ≡ accepted s c
+unfolding exec
+exec-accepted s c e = cond-true _ _ (eq-eqb (refusal s c) 0 e)
+
+pub exec-refused : (s : State) (c : Request) → (refusal s c ≡ 0 → ⊥) → exec s c ≡ refused s (refusal s c)
+unfolding exec
+exec-refused s c e = cond-false _ _ (ne-eqb (refusal s c) 0 e)

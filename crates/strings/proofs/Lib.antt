@@ -1,3 +1,3 @@
--- Laws that belong to no one function.
+-- Laws of fonts, and of the check of a string.
 pub mod FontLaws
 pub mod CheckLaws

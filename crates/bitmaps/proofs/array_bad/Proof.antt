@@ -9,7 +9,7 @@ bytes-bad-requires c κs = search needs
 
 returns : tie.Need-returns
 unfolding arrayBad
-returns c = cc
+returns c = rw (c .bytes-bad .ensures)
 
 pub array-bad-spec : {M : Type 1} → statement M
 array-bad-spec = tie.close (tie.spec bytes-bad-requires returns)

@@ -10,7 +10,7 @@ touches-requires : tie.Need-touches-requires
 touches-requires c κs = search needs
 
 returns : tie.Need-returns
-returns c = cc
+returns c = rw (c .touches .ensures, c .before .passes-end .ensures)
 
 pub bytes-bad-spec : {M : Type 1} → statement M
 bytes-bad-spec = tie.close (tie.spec passes-end-requires touches-requires returns)

@@ -15,7 +15,7 @@ passes-end-requires c κs = search needs
 
 returns : tie.Need-returns
 unfolding storeBitmapBad
-returns c = cc
+returns c = rw (c .passes-end .ensures, c .before .is-depth .ensures, c .before .before .bitmap-bytes .ensures .0)
 
 pub store-bitmap-bad-spec : {M : Type 1} → statement M
 store-bitmap-bad-spec =

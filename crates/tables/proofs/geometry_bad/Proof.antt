@@ -18,7 +18,7 @@ out-of-requires-3 c κs = search needs
 
 returns : tie.Need-returns
 unfolding geometryBad
-returns c = cc
+returns c = rw (c .out-of3 .ensures, c .before .is-depth .ensures, c .before .before .out-of2 .ensures, c .before .before .before .out-of .ensures)
 
 pub geometry-bad-spec : {M : Type 1} → statement M
 geometry-bad-spec =

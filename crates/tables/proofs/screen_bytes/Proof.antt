@@ -31,7 +31,7 @@ mul-result-2 : tie.Need-mul-result-2
 mul-result-2 c = omega (arith, all (c .before))
 
 returns : tie.Need-returns
-returns c = cc
+returns c = rw (c .before .row-words .ensures)
 
 pub screen-bytes-spec : {M : Type 1} → statement M
 screen-bytes-spec =

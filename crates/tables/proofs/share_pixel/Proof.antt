@@ -36,7 +36,7 @@ share-span-requires-2 c κs = search needs
 
 returns : tie.Need-returns
 unfolding sharePixel
-returns c = cc
+returns c = rw (c .share-span2 .ensures, c .before .before .before .before .before .share-span .ensures)
 
 pub share-pixel-spec : {M : Type 1} → statement M
 share-pixel-spec =

@@ -30,7 +30,9 @@ refuse-requires-5 c κs = search needs
 
 returns : tie.Need-returns
 unfolding tableChecks
-returns c = cc
+returns c =
+    let f = c .before .before .before .before .before .before .found .ensures in
+    rw (c .refuse5 .ensures, c .before .screen-bytes .ensures, c .before .before .refuse4 .ensures, c .before .before .before .refuse3 .ensures, c .before .before .before .before .refuse2 .ensures, c .before .before .before .before .before .refuse .ensures, f .rectangle, f .store, f .pixel, f .byte)
 
 pub table-refusal-spec : {M : Type 1} → statement M
 table-refusal-spec =

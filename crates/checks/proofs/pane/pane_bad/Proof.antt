@@ -18,7 +18,9 @@ font-bad-requires c κs = search needs
 
 returns : tie.Need-returns
 unfolding paneBad
-returns c = cc
+returns c =
+    let f = c .before .before .before .before in
+    rw (f .font-bad .ensures, f .before .clip-outside .ensures, f .before .before .rule-broken .ensures, f .before .before .before .progress-bad .ensures)
 
 pub pane-bad-spec : {M : Type 1} → statement M
 pane-bad-spec =
