@@ -6,7 +6,6 @@ ghost use Rattle.model.specs.Runs.{stepped, runs};
 ghost use Rattle.decoder.proofs.DecodeLaws.{Addressed};
 ghost use Rattle.gp.specs.Obeying.{obeyed, stoppedOf};
 ghost use Rattle.drawing.specs.Stepping.{Sound, left, leftOf};
-use commands::control;
 use model::Command;
 use model::Decoded;
 use model::Geometry;

@@ -1,9 +1,8 @@
-// Every command, done: the one match on what a command is. Those that change the record alone are the crate commands', the others the
-// crate drawing's.
+// Every command, done: the one match on what a command is. Those that change the record alone are the crates control's and commands', the others
+// the crate drawing's.
 ghost use mathlib.Core.Path.{_≡_};
 ghost use lib.ListN.{length};
 ghost use Rattle.drawing.specs.Stepping.{Allowed, left, done};
-use commands::control;
 use commands::position;
 use commands::settings;
 use drawing::blocks;

@@ -11,7 +11,8 @@ use Rattle.model.specs.Coordinates.{coord}
 use Rattle.model.specs.Words.{digit}
 use Rattle.model.specs.declared.Reply.{Reply}
 use Rattle.model.specs.declared.Reply.the-variants as reply
-use Rattle.printer.specs.Replies.{numeral, decimalText, hexText, signedText, valueTexts, listed, replyText}
+use Rattle.numerals.specs.Numerals.{numeral, decimalText, hexText, signedText, listed}
+use Rattle.printer.specs.Replies.{valueTexts, replyText}
 
 one-or : (t : Bool) (x : ℕ) (l : List ℕ) (n : ℕ) → 1 ≤ n → length l ≤ n → length (cond t (x ∷ []) l) ≤ n
 one-or true x l n h k = h

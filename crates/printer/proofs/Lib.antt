@@ -1,4 +1,2 @@
--- Laws of text that is written to a buffer, and of numbers as text.
-pub mod WroteLaws
-pub mod NumeralLaws
+-- How long a reply is.
 pub mod LengthLaws

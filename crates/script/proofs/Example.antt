@@ -8,7 +8,8 @@ use Rattle.model.proofs.Computing.{machine}
 use Rattle.fields.specs.Numbers.{longer, extended, andDigits, spelledNumber}
 use Rattle.fields.specs.Fields.{onFirst, pieces, spelledBytes, numbersOf, lineNumbers}
 use Rattle.parser.specs.Lines.{screenLine, paneLine, openLine, putLine, startLine, runLine, lookLine, pixelLine, byLetter, lettered, lineOf}
-use Rattle.printer.specs.Replies.{numeral, listed, replyText}
+use Rattle.numerals.specs.Numerals.{numeral, listed}
+use Rattle.printer.specs.Replies.{replyText}
 use Rattle.session.specs.Desk.{made, restored, obeyed}
 use Rattle.script.specs.Scripts.{printed, answered}
 

@@ -10,8 +10,9 @@ use Rattle.fields.specs.Fields.{before, lineFeed, linesOf}
 use Rattle.parser.specs.Lines.{lineOf}
 use Rattle.fields.proofs.PieceLaws.{linesOf-next, linesOf-none}
 use Rattle.model.proofs.Decisions.{cond-true, cond-false}
-use Rattle.printer.specs.Replies.{malformedText, Wrote}
-use Rattle.printer.proofs.WroteLaws.{Wrote-then, Wrote-none}
+use Rattle.numerals.specs.Numerals.{Wrote}
+use Rattle.printer.specs.Replies.{malformedText}
+use Rattle.numerals.proofs.WroteLaws.{Wrote-then, Wrote-none}
 use Rattle.session.specs.declared.Session.{Session}
 use Rattle.session.specs.declared.Outcome.{Outcome}
 use Rattle.session.specs.Desk.{Moved, desk, moved, begun, obeyed}

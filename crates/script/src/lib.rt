@@ -10,7 +10,7 @@ ghost use Rattle.io.specs.Counts.{Counts};
 ghost use Rattle.fields.specs.Fields.{linesOf};
 ghost use Rattle.parser.specs.Lines.{lineOf, meant};
 ghost use Rattle.session.specs.Desk.{desk, moved, obeyed, begun};
-ghost use Rattle.printer.specs.Replies.{Wrote};
+ghost use Rattle.numerals.specs.Numerals.{Wrote};
 ghost use Rattle.script.specs.Scripts.{textOf, answered, printed, room};
 
 // The longest script.

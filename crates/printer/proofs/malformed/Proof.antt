@@ -1,6 +1,6 @@
 -- A question mark and a line feed.
 use borrow.Author.Needs.{needs}
-use Rattle.printer.proofs.WroteLaws.{Wrote-then}
+use Rattle.numerals.proofs.WroteLaws.{Wrote-then}
 use Rattle.printer.proofs.malformed.Statement.{statement}
 use Rattle.printer.proofs.malformed.Tie as tie
 

@@ -1,6 +1,6 @@
 -- Three values in their order.
 use borrow.Author.Needs.{needs}
-use Rattle.printer.proofs.WroteLaws.{Wrote-values}
+use Rattle.numerals.proofs.WroteLaws.{Wrote-values}
 use Rattle.printer.proofs.ran.Statement.{statement}
 use Rattle.printer.proofs.ran.Tie as tie
 

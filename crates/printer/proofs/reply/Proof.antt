@@ -1,7 +1,7 @@
 -- Letter, values and line feed.
 use borrow.Author.Needs.{needs}
 use Rattle.printer.specs.Replies.{replyText}
-use Rattle.printer.proofs.WroteLaws.{Wrote-then}
+use Rattle.numerals.proofs.WroteLaws.{Wrote-then}
 use Rattle.printer.proofs.reply.Statement.{statement}
 use Rattle.printer.proofs.reply.Tie as tie
 

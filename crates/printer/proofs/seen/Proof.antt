@@ -1,6 +1,6 @@
 -- Progress, and four values in their order.
 use borrow.Author.Needs.{needs}
-use Rattle.printer.proofs.WroteLaws.{Wrote-values}
+use Rattle.numerals.proofs.WroteLaws.{Wrote-values}
 use Rattle.printer.proofs.seen.Statement.{statement}
 use Rattle.printer.proofs.seen.Tie as tie
 

@@ -1,6 +1,6 @@
 -- Each arm's values in their order.
 use borrow.Author.Needs.{needs}
-use Rattle.printer.proofs.WroteLaws.{Wrote-values}
+use Rattle.numerals.proofs.WroteLaws.{Wrote-values}
 use Rattle.printer.proofs.values.Statement.{statement}
 use Rattle.printer.proofs.values.Tie as tie
 

@@ -1,5 +1,5 @@
 -- The text of each outcome, written after what stands in the buffer already.
-use Rattle.printer.proofs.WroteLaws.{Wrote-none}
+use Rattle.numerals.proofs.WroteLaws.{Wrote-none}
 use borrow.Author.Needs.{needs}
 use Rattle.script.proofs.print.Statement.{statement}
 use Rattle.script.proofs.print.Tie as tie

@@ -8,7 +8,7 @@ use native.Mathlib.Omega.{arith}
 use borrow.Author.Tests.{lt-ltb, le-ltb}
 use Rattle.io.specs.Digits.{glyph, digits, Fewest}
 use Rattle.model.specs.Coordinates.{coord}
-use Rattle.printer.specs.Replies.{numeral, decimalText, signedText}
+use Rattle.numerals.specs.Numerals.{numeral, decimalText, signedText}
 
 -- one digit
 one-digit : (base m n : ℕ) → n < base → numeral base m n ≡ glyph (n % base) ∷ []

@@ -6,7 +6,7 @@ use native.Mathlib.Numerals.{add-one}
 use native.Mathlib.Omega.{arith}
 use lib.ListN.{length, getD, take, set, length-append}
 use lib.Seq.{length-take-le, take-all, take-at, take-suc, take-suc-set}
-use Rattle.printer.specs.Replies.{listed, Wrote}
+use Rattle.numerals.specs.Numerals.{listed, Wrote}
 
 -- what is cut twice at the same place is cut once
 take-cut : (n : ℕ) (x y : List ℕ) → take n (take n x ++ y) ≡ take n (x ++ y)

@@ -2,9 +2,9 @@
 use Prim.Native.Nat.{_^_, _<_}
 use native.Mathlib.Omega.{arith}
 use borrow.Author.Needs.{needs}
-use Rattle.printer.proofs.NumeralLaws.{numeral-fewest}
-use Rattle.printer.proofs.decimal.Statement.{statement}
-use Rattle.printer.proofs.decimal.Tie as tie
+use Rattle.numerals.proofs.NumeralLaws.{numeral-fewest}
+use Rattle.numerals.proofs.decimal.Statement.{statement}
+use Rattle.numerals.proofs.decimal.Tie as tie
 
 decimal-requires : tie.Need-decimal-requires
 decimal-requires c κs = search needs

@@ -2,10 +2,10 @@
 use Prim.Native.Nat.{_^_, _<_}
 use native.Mathlib.Omega.{arith}
 use borrow.Author.Needs.{needs}
-use Rattle.printer.proofs.WroteLaws.{Wrote-value}
-use Rattle.printer.proofs.NumeralLaws.{numeral-fewest}
-use Rattle.printer.proofs.pointer.Statement.{statement}
-use Rattle.printer.proofs.pointer.Tie as tie
+use Rattle.numerals.proofs.WroteLaws.{Wrote-value}
+use Rattle.numerals.proofs.NumeralLaws.{numeral-fewest}
+use Rattle.numerals.proofs.pointer.Statement.{statement}
+use Rattle.numerals.proofs.pointer.Tie as tie
 
 push-requires : tie.Need-push-requires
 push-requires c κs = search needs

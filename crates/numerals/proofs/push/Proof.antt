@@ -1,9 +1,9 @@
 -- A byte goes to its place, or the buffer is full.
 use native.Mathlib.Omega.{arith}
 use borrow.Author.Needs.{needs}
-use Rattle.printer.proofs.WroteLaws.{Wrote-byte, Wrote-full}
-use Rattle.printer.proofs.push.Statement.{statement}
-use Rattle.printer.proofs.push.Tie as tie
+use Rattle.numerals.proofs.WroteLaws.{Wrote-byte, Wrote-full}
+use Rattle.numerals.proofs.push.Statement.{statement}
+use Rattle.numerals.proofs.push.Tie as tie
 
 slice-write-out : tie.Need-slice-write-out
 slice-write-out c = search needs

@@ -1,7 +1,7 @@
 -- Either flag is a value.
 use borrow.Author.Needs.{needs}
-use Rattle.printer.proofs.flag.Statement.{statement}
-use Rattle.printer.proofs.flag.Tie as tie
+use Rattle.numerals.proofs.flag.Statement.{statement}
+use Rattle.numerals.proofs.flag.Tie as tie
 
 value-requires : tie.Need-value-requires
 value-requires c κs = search needs

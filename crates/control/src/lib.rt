@@ -1,4 +1,4 @@
-// Where a list goes on, stops or faults.
+// Where a list goes on, stops or faults: the record that NOP, LINK, CALL, RETURN, the end word and a fault leave.
 ghost use mathlib.Core.Path.{_≡_};
 ghost use Prim.Native.Nat.{_≤_, _<_};
 ghost use Rattle.model.specs.Record.{withPointer, withReturns, ended, faulted};

@@ -5,10 +5,10 @@ use native.Mathlib.Omega.{arith}
 use lib.ListN.{length, take}
 use lib.Seq.{take-all}
 use borrow.Author.Needs.{needs}
-use Rattle.printer.specs.Replies.{Wrote}
-use Rattle.printer.proofs.WroteLaws.{Wrote-none, Wrote-next}
-use Rattle.printer.proofs.append.Statement.{statement}
-use Rattle.printer.proofs.append.Tie as tie
+use Rattle.numerals.specs.Numerals.{Wrote}
+use Rattle.numerals.proofs.WroteLaws.{Wrote-none, Wrote-next}
+use Rattle.numerals.proofs.append.Statement.{statement}
+use Rattle.numerals.proofs.append.Tie as tie
 
 abbrev Inv-loop : tie.InvT-loop
 Inv-loop out₀ at bytes end₀ i₀ out end i =

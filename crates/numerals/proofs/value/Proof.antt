@@ -1,8 +1,8 @@
 -- A comma and the numeral.
 use borrow.Author.Needs.{needs}
-use Rattle.printer.proofs.WroteLaws.{Wrote-value}
-use Rattle.printer.proofs.value.Statement.{statement}
-use Rattle.printer.proofs.value.Tie as tie
+use Rattle.numerals.proofs.WroteLaws.{Wrote-value}
+use Rattle.numerals.proofs.value.Statement.{statement}
+use Rattle.numerals.proofs.value.Tie as tie
 
 push-requires : tie.Need-push-requires
 push-requires c κs = search needs

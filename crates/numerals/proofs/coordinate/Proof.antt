@@ -1,10 +1,10 @@
 -- A coordinate that is not negative is its pattern; of another the numeral stands after a minus.
 use native.Mathlib.Omega.{arith}
 use borrow.Author.Needs.{needs}
-use Rattle.printer.proofs.WroteLaws.{Wrote-value, Wrote-then}
-use Rattle.printer.proofs.NumeralLaws.{coordinate-plus, coordinate-minus}
-use Rattle.printer.proofs.coordinate.Statement.{statement}
-use Rattle.printer.proofs.coordinate.Tie as tie
+use Rattle.numerals.proofs.WroteLaws.{Wrote-value, Wrote-then}
+use Rattle.numerals.proofs.NumeralLaws.{coordinate-plus, coordinate-minus}
+use Rattle.numerals.proofs.coordinate.Statement.{statement}
+use Rattle.numerals.proofs.coordinate.Tie as tie
 
 value-requires : tie.Need-value-requires
 value-requires c κs = search needs
