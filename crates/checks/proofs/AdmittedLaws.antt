@@ -5,14 +5,14 @@ use mathlib.Core.List.{List}
 use Prim.Native.Nat.{ℕ, _+_, _%_, _≤_, _<_}
 use native.Mathlib.Omega.{arith}
 use lib.Dec.{ltb, leb, eqb}
-use borrow.Author.Tests.{ltb-false, leb-false, eqb-true, eqb-false}
+use borrow.Author.Tests.{ltb-false, leb-false, eqb-false}
 use Rattle.model.specs.declared.Geometry.{Geometry}
 use Rattle.model.specs.declared.Row.{Row}
-use Rattle.model.specs.Ranges.{anyBelow, orElse}
+use Rattle.model.specs.Ranges.{anyBelow}
 use Rattle.model.specs.Bitmaps.{paneSurface}
 use Rattle.model.specs.Setup.{rowAt, geometryBad, screenBytes, rectangleBad, storeBad, checks, mostStore, paneBad}
 use Rattle.model.specs.Calls.{State, rowOf, recordOf, storeOf, setupRefusal, callRefusal}
-use Rattle.model.proofs.Decisions.{split, either-false, cond-none, cond-true, cond-false}
+use Rattle.model.proofs.Decisions.{either-false, cond-none, orElse-none}
 use Rattle.model.proofs.SetupLaws.{any-below}
 use Rattle.model.proofs.PixelLaws.{Fits}
 use Rattle.model.proofs.PartLaws.{length-part}
@@ -81,16 +81,6 @@ checks-passed g n rows screen stores e =
       rectangle = λ k h. rectangleBad-says g (rowAt rows k) (any-below n (λ k. rectangleBad g (rowAt rows k)) k (p8 .0) h);
       store = λ k h. storeBad-says stores (rowAt rows k) (any-below n (λ k. storeBad stores (rowAt rows k)) k (p9 .0) h);
     }
-
-orElse-none : (n rest : ℕ) → orElse n rest ≡ 0 → (n ≡ 0) × (rest ≡ 0)
-orElse-none n rest h = split (eqb n 0)
-    (λ e. (eqb-true n 0 e, rw (cond-true rest n e) at h))
-    (λ e. absurd (eqb-false n 0 e (rw (cond-false rest n e) at h)))
-
--- a call on a pane is not refused: nor is set-up
-pub callRefusal-setup : (s : State) (k : ℕ) → callRefusal s k ≡ 0 → setupRefusal s ≡ 0
-unfolding callRefusal
-callRefusal-setup s k h = orElse-none (setupRefusal s) _ h .0
 
 pub callRefusal-admitted : (s : State) (k : ℕ) → callRefusal s k ≡ 0 → Admitted s k
 unfolding callRefusal setupRefusal rowOf recordOf storeOf

@@ -24,7 +24,6 @@ use Rattle.model.specs.Setup.{progressBad, baseBad, fontBad, paneBad}
 use Rattle.model.specs.Calls.{started}
 use Rattle.model.proofs.Decisions.{split, either-false}
 use Rattle.checks.specs.Good.{GoodProgress, Good}
-use Rattle.bitmaps.proofs.DepthLaws.{even-of}
 
 -- ## Refusal 12's tests
 
@@ -63,12 +62,6 @@ module _ (p : Progress) where
 pub record GoodBase (a : ℕ) : Type 0 where
   pub even : a % 2 ≡ 0
   pub most : a < 4194304
-
-pub baseBad-good : (a : ℕ) → baseBad a ≡ false → GoodBase a
-baseBad-good a h =
-    let p = either-false (eqb (a % 2) 1) (ltb 0x3FFFFF a) h in
-    let m = ltb-false 0x3FFFFF a (p .1) in
-    record { even = even-of a (p .0); most = omega arith }
 
 pub good-baseBad : (a : ℕ) → GoodBase a → baseBad a ≡ false
 good-baseBad a q = let e = q .even in let m = q .most in either-none (ne-eqb (a % 2) 1 (λ o. omega arith)) (le-ltb 0x3FFFFF a (omega arith))

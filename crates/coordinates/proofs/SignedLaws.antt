@@ -55,10 +55,6 @@ mag-coord p h = split (ltb p 32768)
 
 -- ## What a signed test says
 
-pub below-zero : (z : ℤ) → ltZ z (pos 0) ≡ true → z ≡ negsuc (mag z)
-below-zero (pos k) h = absurd (let l : k < 0 = ltb-true k 0 h in omega arith)
-below-zero (negsuc k) h = refl
-
 pub negated : (z : ℤ) → ltZ z (pos 0) ≡ true → pos 0 -ℤ z ≡ pos (natAbs z)
 negated (pos k) h = absurd (let l : k < 0 = ltb-true k 0 h in omega arith)
 negated (negsuc k) h = ap pos (zero-add (suc k))

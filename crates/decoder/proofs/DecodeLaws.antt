@@ -53,11 +53,6 @@ decode-do len s at k next e = split (eqb (at % 2) 1 || ltb len (at + 2))
     even : (at % 2 ≡ 1 → ⊥) → at % 2 ≡ 0
     even f = omega arith
 
--- ## The next address
-
-pub decode-next : (len : ℕ) (s : List ℕ) (at : ℕ) (k : Command) (next : ℕ) → decode len s at ≡ Do k next → (next % 2 ≡ 0) × (next ≤ len)
-decode-next len s at k next e = let f = decode-do len s at k next e in (omega arith, omega arith)
-
 -- ## Addresses
 
 -- the addresses that a command holds have 22 bits

@@ -9,17 +9,16 @@ use native.Mathlib.Decide.{decLt, ℕ-discrete}
 use lib.ListN.{length, getD, length-set}
 use lib.Seq.{getD-set-same, getD-set-other}
 use lib.Dec.{eqb, leb}
-use borrow.Author.Tests.{leb-false, eqb-true, eqb-false}
+use borrow.Author.Tests.{leb-false, eqb-true}
 use Rattle.model.specs.declared.Geometry.{Geometry}
 use Rattle.model.specs.declared.Row.{Row}
-use Rattle.model.specs.Ranges.{orElse}
 use Rattle.model.specs.Words.{bitAt}
 use Rattle.model.specs.Bitmaps.{rowWords, gridBit, placeBit, paneSurface, pixels}
 use Rattle.model.specs.Numbers.{refusePane, refuseRecord}
 use Rattle.model.specs.Record.{noPane}
 use Rattle.model.specs.Setup.{paneBad}
 use Rattle.model.specs.Calls.{State, Request, Answer, Outcome, rowOf, recordOf, storeOf, part, ownRefusal, setupRefusal, callRefusal, refusal, refused, withPane, onPane, accepted, exec}
-use Rattle.model.proofs.Decisions.{split, cond-true, cond-false, cond-ind, cond-none}
+use Rattle.model.proofs.Decisions.{cond-ind, cond-none, orElse-none}
 use Rattle.model.proofs.PlaceLaws.{Depth, apart}
 use Rattle.model.proofs.PartLaws.{length-part, part-ext, length-inPart, part-inPart, inPart-out}
 use Rattle.model.proofs.PixelLaws.{InPane, same-bits}
@@ -28,11 +27,6 @@ use Rattle.model.proofs.CallLaws.{Local, onPane-local}
 use Rattle.isolation.proofs.States.{Sound, valid, columns-fit, pane-fits, Stays, stays-refusal, shareOf, On, on-stays}
 
 -- ## Refused or carried out
-
-pub orElse-none : (n m : ℕ) → orElse n m ≡ 0 → (n ≡ 0) × (m ≡ 0)
-orElse-none n m h = split (eqb n 0)
-    (λ e. (eqb-true n 0 e, sym (cond-true m n e) ∙ h))
-    (λ e. absurd (eqb-false n 0 e (sym (cond-false m n e) ∙ h)))
 
 -- what a call that is not refused has: a pane, and no refusal of its own
 pub record Taken (s : State) (c : Request) : Type 0 where

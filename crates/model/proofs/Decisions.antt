@@ -1,10 +1,12 @@
 -- What a test's outcome says, and a choice by a test.
-use mathlib.Core.Path.{_≡_, refl, sym}
+use mathlib.Core.Path.{_≡_, refl, sym, _∙_}
 use mathlib.Core.Logic.{_⊎_, inl, inr}
 use mathlib.Core.Bool.{Bool, true, false, cond, _&&_, _||_}
 use Prim.Native.Nat.{ℕ, suc}
 use native.Mathlib.Omega.{arith}
-use lib.Dec.{T}
+use lib.Dec.{T, eqb}
+use borrow.Author.Tests.{eqb-true, eqb-false}
+use Rattle.model.specs.Ranges.{orElse}
 
 pub split {ℓ} : {P : Type ℓ} (t : Bool) → (t ≡ true → P) → (t ≡ false → P) → P
 split true f g = f refl
@@ -50,3 +52,10 @@ cond-rel R false a b a′ b′ f g = g
 pub cond-none : (t : Bool) (n m : ℕ) → cond t (suc n) m ≡ 0 → (t ≡ false) × (m ≡ 0)
 cond-none true n m e = absurd (omega arith)
 cond-none false n m e = (refl, e)
+
+-- ## The first refusal that applies
+
+pub orElse-none : (n rest : ℕ) → orElse n rest ≡ 0 → (n ≡ 0) × (rest ≡ 0)
+orElse-none n rest h = split (eqb n 0)
+    (λ e. (eqb-true n 0 e, sym (cond-true rest n e) ∙ h))
+    (λ e. absurd (eqb-false n 0 e (sym (cond-false rest n e) ∙ h)))

@@ -2,7 +2,7 @@
 use mathlib.Core.Path.{_≡_, refl, sym, ap, ap₂, _∙_, subst}
 use mathlib.Core.Logic.{_≢_, _⊎_, inl, inr}
 use mathlib.Core.Bool.{Bool, true, false, cond, _&&_, _||_}
-use mathlib.Core.List.{List, [], _∷_, _++_}
+use mathlib.Core.List.{List, [], _∷_, _++_, append-nil}
 use Prim.Native.Nat.{ℕ, zero, suc, _+_, _-_, _≤_, _<_}
 use native.Mathlib.Omega.{arith}
 use native.Mathlib.Decide.{ℕ-discrete}
@@ -12,6 +12,7 @@ use Rattle.model.specs.Ranges.{listed}
 use Rattle.model.specs.Coordinates.{Place, at, offset, signAs, same, samePlace}
 use Rattle.model.specs.Dots.{keep}
 use Rattle.model.specs.Lines.{alongX, alongY, walk, visited, once}
+use Rattle.model.proofs.DotLaws.{listed-last}
 
 -- ## A list walked
 
@@ -285,15 +286,6 @@ module _ (p : Place) (dx dy : ℤ) where
   old3 : b ≡ 0 → once seen2 side3 ≡ []
   unfolding side3 seen1 seen2
   old3 e = once-old (suc a) 0 (λ i. spot (a - i) b) seen2 (λ k l m. still (spot (a - k) b) side2 seen1 (within1 (a - k) b (omega arith) e))
-
-  listed-last : (n i : ℕ) (f : ℕ → Place) → listed i (suc n) f ≡ listed i n f ++ (f (i + n) ∷ [])
-  unfolding listed
-  listed-last zero i f = ap {B = List Place} (λ (k : ℕ). f k ∷ []) (omega arith)
-  listed-last (suc n) i f = ap {B = List Place} (λ r. f i ∷ r) (listed-last n (suc i) f ∙ ap (λ (k : ℕ). listed (suc i) n f ++ (f k ∷ [])) (omega arith))
-
-  append-nil : (l : List Place) → l ++ [] ≡ l
-  append-nil [] = refl
-  append-nil (q ∷ l) = ap {B = List Place} (λ r. q ∷ r) (append-nil l)
 
   new4 : a ≢ 0 → b ≢ 0 → once seen3 side4 ≡ listed 1 (b - 1) (λ j. spot 0 (b - j))
   unfolding side4 listed seen1 seen2 seen3 visited once

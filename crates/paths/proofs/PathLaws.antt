@@ -12,10 +12,6 @@ use Rattle.model.proofs.Decisions.{split, cond-rel}
 
 -- ## Patterns
 
-pub wrap-lt : (z : ℤ) → wrap z < 65536
-wrap-lt (pos n) = omega arith
-wrap-lt (negsuc n) = omega arith
-
 -- the pattern of a difference
 wrap-sub : (a b : ℕ) → wrap (subℕ a b) ≡ (a + (65536 - b % 65536)) % 65536
 wrap-sub a b = split (ltb a b)
@@ -35,10 +31,6 @@ wrap-neg : (z : ℤ) → wrap (negℤ z) ≡ (65536 - wrap z) % 65536
 wrap-neg (pos zero) = refl
 wrap-neg (pos (suc n)) = omega arith
 wrap-neg (negsuc n) = omega arith
-
--- .. and minus one
-pub wrap-minus : (p : ℕ) (z : ℤ) → p < 65536 → wrap (coord p +ℤ negℤ z) ≡ (p + (65536 - wrap z)) % 65536
-wrap-minus p z h = wrap-plus p (negℤ z) h ∙ ap (λ (n : ℕ). (p + n) % 65536) (wrap-neg z) ∙ omega (arith, wrap-lt z)
 
 pub wrap-coord : (d : ℕ) → d < 65536 → wrap (coord d) ≡ d
 wrap-coord d h = split (ltb d 32768)

@@ -20,11 +20,10 @@ use Rattle.model.specs.declared.Pen.{Pen}
 use Rattle.model.specs.declared.Source.{Source}
 use Rattle.model.proofs.BitLaws.{bit-num, num-cong}
 use Rattle.model.proofs.Decisions.{split, cond-true, cond-false}
-use Rattle.model.proofs.FieldLaws.{length-put, put-keeps, put-field, field-bits}
+use Rattle.model.proofs.FieldLaws.{put-keeps, put-field, field-bits}
 use Rattle.model.proofs.PlaceLaws.{in-byte, in-rows, apart}
-use Rattle.model.proofs.PixelLaws.{Fits, fits-framed, inside-true, inside-of, pixels-in}
+use Rattle.model.proofs.PixelLaws.{Fits, inside-true, inside-of, pixels-in}
 use Rattle.raster.specs.Operations.{field}
-use Rattle.raster.specs.Place.{Drawable}
 use Rattle.raster.specs.Pixels.{blending}
 use Rattle.raster.proofs.BitLaws.{num-lt}
 
@@ -113,12 +112,6 @@ updated-same l k f g s = elim (decLt k (length l)) [
     none f g h = ap (updated k g) (set-out l k (f (getD l k 0)) h) ∙ set-out l k (g (getD l k 0)) h
 
 -- ## Changes
-
-pub length-change : (u : Surface) (c : Change) (s : List ℕ) → length (change u c s) ≡ length s
-unfolding change
-length-change u c s = split (inside u (c .x) (c .y))
-    (λ e. ap length (cond-true _ _ e) ∙ length-put s _ _ _)
-    (λ e. ap length (cond-false _ _ e))
 
 pub change-out : (u : Surface) (c : Change) (s : List ℕ) → inside u (c .x) (c .y) ≡ false → change u c s ≡ s
 unfolding change
@@ -249,7 +242,3 @@ pub pixels-blended : (u : Surface) (s : List ℕ) → Fits u s → (pen : Pen) (
     → pixels u (change u (blending u pen source x y) s) x y ≡ blend (u .bits) (placeShift u x) pen source (pixels u s x y)
 pixels-blended u s f pen source x y h k =
     pixels-changed u s f (blending u pen source x y) (inside-of u x y h k) ∙ num-blend (u .bits) (placeShift u x) pen source (pixels u s x y)
-
--- a pixel that could be drawn still can be in a buffer of the same length
-pub drawable-kept : {u : Surface} {s : List ℕ} {x y : ℕ} (t : List ℕ) → length t ≡ length s → Drawable u s x y → Drawable u t x y
-drawable-kept {u} {s} t e d = record { fits = fits-framed u s t e (d .fits); small = d .small; column = d .column; row = d .row }
