@@ -6,36 +6,36 @@ use Prim.Native.Nat.{ℕ}
 use lib.ListN.{take, drop, take-append-drop}
 use lib.Seq.{set-getD}
 use borrow.Author.Tests.{eq-eqb, ne-eqb}
-use Rattle.model.specs.declared.Console.{Console}
 use Rattle.model.specs.declared.Pane.{Pane}
 use Rattle.model.specs.declared.Reply.{Reply}
 use Rattle.model.specs.declared.Row.{Row}
 use Rattle.model.specs.Record.{noPane}
+use Rattle.model.specs.Replies.{Response, response}
 use Rattle.model.specs.Calls.{State, Call, on, part, inPart, ownRefusal, Outcome, outcome, onPane, rowOf, recordOf, storeOf, setupRefusal, callRefusal, refusal, withPane, accepted, refused, exec, setUp}
 use Rattle.model.proofs.Decisions.{cond-true, cond-false}
 use Rattle.model.proofs.CallLaws as calls
 use Rattle.answers.specs.declared.Answered.{Answered}
-use Rattle.answers.specs.Answers.{answer, turnedAway, withRecord, replaced}
+use Rattle.answers.specs.Answers.{state, answer, unchanged, turnedAway, withRecord, replaced}
 
 -- ## Refused
 
 -- the answer of a call that was turned away
-turned-away : (s : State) (n : ℕ) (r : Answered) → r ≡ turnedAway (s .console) n → answer (r .console) (r .reply) (s .screen) (s .stores) ≡ refused s n
-turned-away s n r e = ap (λ (r : Answered). answer (r .console) (r .reply) (s .screen) (s .stores)) e
+turned-away : (s : State) (n : ℕ) (r : Answered) → r ≡ turnedAway (s .console) n → answer r (s .screen) (s .stores) ≡ refused s n
+turned-away s n r e = ap (λ (r : Answered). answer r (s .screen) (s .stores)) e
 
 pub setUp-refused : (s : State) (n : ℕ) (r : Answered) → r ≡ turnedAway (s .console) n → n ≡ setupRefusal s → (n ≡ 0 → ⊥)
-    → answer (r .console) (r .reply) (s .screen) (s .stores) ≡ setUp s
+    → answer r (s .screen) (s .stores) ≡ setUp s
 unfolding setUp
 setUp-refused s n r e q h = turned-away s n r e ∙ ap (refused s) q ∙ sym (cond-false _ _ (ne-eqb (setupRefusal s) 0 (λ z. h (q ∙ z))))
 
 module _ (s : State) (number : ℕ) (call : Call) where
   exec-refusal : (n : ℕ) (r : Answered) → r ≡ turnedAway (s .console) n → n ≡ refusal s (on number call) → (n ≡ 0 → ⊥)
-      → answer (r .console) (r .reply) (s .screen) (s .stores) ≡ exec s (on number call)
+      → answer r (s .screen) (s .stores) ≡ exec s (on number call)
   exec-refusal n r e q h = turned-away s n r e ∙ ap (refused s) q ∙ sym (calls.exec-refused s (on number call) (λ z. h (q ∙ z)))
 
   -- by what is common to all calls
   pub exec-refused : (n : ℕ) (r : Answered) → r ≡ turnedAway (s .console) n → n ≡ callRefusal s number → (n ≡ 0 → ⊥)
-      → answer (r .console) (r .reply) (s .screen) (s .stores) ≡ exec s (on number call)
+      → answer r (s .screen) (s .stores) ≡ exec s (on number call)
   unfolding refusal
   exec-refused n r e q h = exec-refusal n r e (q ∙ sym (cond-false _ _ (ne-eqb (callRefusal s number) 0 (λ z. h (q ∙ z))))) h
 
@@ -46,7 +46,7 @@ module _ (s : State) (number : ℕ) (call : Call) where
 
     -- by the call's own check
     pub exec-refused-own : (n : ℕ) (r : Answered) → r ≡ turnedAway (s .console) n → n ≡ ownRefusal (rowOf s number) (recordOf s number) call → (n ≡ 0 → ⊥)
-        → answer (r .console) (r .reply) (s .screen) (s .stores) ≡ exec s (on number call)
+        → answer r (s .screen) (s .stores) ≡ exec s (on number call)
     exec-refused-own n r e q h = exec-refusal n r e (q ∙ sym refusal-own) h
 
 -- the call's own check, made with the row that was read
@@ -69,34 +69,38 @@ module _ (s : State) (number : ℕ) (call : Call) {m n : ℕ} (f : m ≡ callRef
     (g : n ≡ ownRefusal (rowOf s number) (recordOf s number) call) (y : n ≡ 0) where
   -- by what the call makes of the pane
   pub exec-accepted : (o : Outcome) → onPane (s .console .geometry) (rowOf s number) (recordOf s number) (s .screen) (storeOf s number) call ≡ o
-      → (d : Console) (a : Reply) (screen stores : List ℕ)
-      → d ≡ withRecord (s .console) number (o .pane) → a ≡ o .reply → screen ≡ o .screen
+      → (b : Answered) (screen stores : List ℕ)
+      → b .console ≡ withRecord (s .console) number (o .pane) → response (b .reply) ≡ o .reply → screen ≡ o .screen
       → stores ≡ inPart (s .stores) (rowOf s number .start) (rowOf s number .len) (o .store)
-      → answer d a screen stores ≡ exec s (on number call)
+      → answer b screen stores ≡ exec s (on number call)
   unfolding accepted withPane
-  exec-accepted o e d a screen stores p q u v =
-      (λ i. answer (p i) (q i) (u i) (v i)) ∙ ap (withPane s number) (sym e) ∙ sym (calls.exec-accepted s (on number call) (refusal-own s number call f z ∙ sym g ∙ y))
+  exec-accepted o e b screen stores p q u v =
+      (λ i. record { reply = q i; state = state (p i) (u i) (v i) }) ∙ ap (withPane s number) (sym e)
+      ∙ sym (calls.exec-accepted s (on number call) (refusal-own s number call f z ∙ sym g ∙ y))
 
   -- another record, all else kept
   pub exec-record : (p : Pane) (a : Reply)
-      → onPane (s .console .geometry) (rowOf s number) (recordOf s number) (s .screen) (storeOf s number) call ≡ outcome a p (s .screen) (storeOf s number)
+      → onPane (s .console .geometry) (rowOf s number) (recordOf s number) (s .screen) (storeOf s number) call ≡ outcome (response a) p (s .screen) (storeOf s number)
       → (b : Answered) (q : Pane) → b ≡ replaced (s .console) number q a → q ≡ p
-      → answer (b .console) (b .reply) (s .screen) (s .stores) ≡ exec s (on number call)
+      → answer b (s .screen) (s .stores) ≡ exec s (on number call)
   unfolding storeOf
   exec-record p a e b q h i =
-      exec-accepted _ e (b .console) (b .reply) _ _ (ap (λ (b : Answered). b .console) h ∙ ap (withRecord (s .console) number) i) (ap (λ (b : Answered). b .reply) h) refl (sym (part-kept (s .stores) (rowOf s number .start) (rowOf s number .len)))
+      exec-accepted _ e b _ _ (ap (λ (b : Answered). b .console) h ∙ ap (withRecord (s .console) number) i) (ap (λ (b : Answered). response (b .reply)) h) refl
+      (sym (part-kept (s .stores) (rowOf s number .start) (rowOf s number .len)))
 
   -- another store, all else kept
   pub exec-store : (store : List ℕ) (a : Reply)
-      → onPane (s .console .geometry) (rowOf s number) (recordOf s number) (s .screen) (storeOf s number) call ≡ outcome a (recordOf s number) (s .screen) store
+      → onPane (s .console .geometry) (rowOf s number) (recordOf s number) (s .screen) (storeOf s number) call ≡ outcome (response a) (recordOf s number) (s .screen) store
       → (stores : List ℕ) → stores ≡ inPart (s .stores) (rowOf s number .start) (rowOf s number .len) store
-      → answer (s .console) a (s .screen) stores ≡ exec s (on number call)
-  exec-store store a e stores q = exec-accepted _ e _ a _ stores (sym (record-kept s number)) refl refl q
+      → answer (unchanged (s .console) a) (s .screen) stores ≡ exec s (on number call)
+  exec-store store a e stores q = exec-accepted _ e (unchanged (s .console) a) _ stores (sym (record-kept s number)) refl refl q
 
-  -- a value, all kept
-  pub exec-kept : (a : Reply)
+  -- values, all kept
+  pub exec-kept : (a : Response)
       → onPane (s .console .geometry) (rowOf s number) (recordOf s number) (s .screen) (storeOf s number) call ≡ outcome a (recordOf s number) (s .screen) (storeOf s number)
-      → (b : Reply) → b ≡ a
-      → answer (s .console) b (s .screen) (s .stores) ≡ exec s (on number call)
+      → (b : Reply) → response b ≡ a
+      → answer (unchanged (s .console) b) (s .screen) (s .stores) ≡ exec s (on number call)
   unfolding storeOf
-  exec-kept a e b q = exec-accepted _ e _ b _ _ (sym (record-kept s number)) q refl (sym (part-kept (s .stores) (rowOf s number .start) (rowOf s number .len)))
+  exec-kept a e b q =
+      exec-accepted _ e (unchanged (s .console) b) _ _ (sym (record-kept s number)) q refl
+      (sym (part-kept (s .stores) (rowOf s number .start) (rowOf s number .len)))

@@ -6,6 +6,7 @@ use Rattle.model.specs.declared.Console.{Console}
 use Rattle.model.specs.declared.Pane.{Pane}
 use Rattle.model.specs.declared.Reply.{Reply}
 use Rattle.model.specs.declared.Reply.the-variants as reply
+use Rattle.model.specs.Replies.{response}
 use Rattle.model.specs.Calls.{State, Answer}
 use Rattle.answers.specs.declared.Answered.{Answered}
 
@@ -13,13 +14,17 @@ use Rattle.answers.specs.declared.Answered.{Answered}
 abbrev pub state : Console → List ℕ → List ℕ → State
 state console screen stores = record { console = console; screen = screen; stores = stores }
 
--- the same after a call, with its reply
-abbrev pub answer : Console → Reply → List ℕ → List ℕ → Answer
-answer console a screen stores = record { reply = a; state = state console screen stores }
+-- the same after a call, with the paper's number and values of its reply
+abbrev pub answer : Answered → List ℕ → List ℕ → Answer
+answer a screen stores = record { reply = response (a .reply); state = state (a .console) screen stores }
 
--- a refused call: the record as it came
+-- the record as it came, with a reply
+abbrev pub unchanged : Console → Reply → Answered
+unchanged console a = record { console = console; reply = a }
+
+-- a refused call
 abbrev pub turnedAway : Console → ℕ → Answered
-turnedAway console n = record { console = console; reply = reply.Refused n }
+turnedAway console n = unchanged console (reply.Refused n)
 
 -- the record with pane k's replaced
 abbrev pub withRecord : Console → ℕ → Pane → Console

@@ -13,10 +13,9 @@ use Rattle.parser.specs.declared.Line as declared
 use Rattle.parser.specs.declared.Line.the-variants as written
 use Rattle.parser.proofs.Line.{the-type}
 use Rattle.session.specs.declared.Session.{Session}
-use Rattle.session.specs.declared.Outcome.{Outcome}
 use Rattle.session.specs.declared.Outcome.the-variants as outcome
 use Rattle.session.specs.declared.Step.{Step}
-use Rattle.session.specs.Desk.{Moved, desk, moved, stepped, lent, made, restored, obeyed}
+use Rattle.session.specs.Desk.{LineOutcome, question, Moved, desk, moved, stepped, leaves, lent, made, restored, obeyed}
 use Rattle.session.proofs.DeskLaws.{take-counted, drop-counted, step-is, restored-kept}
 
 module _ (s : Session) (opened : s .opened ≡ true) (rows bytes : List ℕ) {screen stores : List ℕ}
@@ -28,23 +27,25 @@ module _ (s : Session) (opened : s .opened ≡ true) (rows bytes : List ℕ) {sc
   asking-made c r q = ap (restored (desk s rows bytes)) (q ∙ ap (λ (a : State). made s c (exec a r)) (sym e)) ∙ rw opened
 
   kept : {r : Step} → r ≡ stepped s outcome.Malformed
-      → restored (desk s rows bytes) (moved (desk (r .session) screen stores) (r .outcome)) ≡ moved (desk s rows bytes) outcome.Malformed
+      → restored (desk s rows bytes) (leaves r screen stores) ≡ moved (desk s rows bytes) question
   kept q =
-      ap (restored (desk s rows bytes)) (step-is q screen stores ∙ ap (λ (a : State). moved (desk s (a .screen) (a .stores)) outcome.Malformed) (sym e))
-      ∙ restored-kept s s outcome.Malformed rows bytes
+      ap (restored (desk s rows bytes)) (step-is q screen stores ∙ ap (λ (a : State). moved (desk s (a .screen) (a .stores)) question) (sym e))
+      ∙ restored-kept s s question rows bytes
 
   -- a line that is no call
-  pub obeyed-other : (said : declared.Line) → OneOf (0 ∷ 1 ∷ 2 ∷ 8 ∷ []) (tagOf the-type said) → (buffer : List ℕ) {r : Step} → r ≡ stepped s outcome.Malformed
-      → restored (desk s rows bytes) (moved (desk (r .session) screen stores) (r .outcome)) ≡ obeyed (meant said buffer) (desk s rows bytes)
+  pub obeyed-other : (said : declared.Line) → OneOf (0 ∷ 1 ∷ 2 ∷ 10 ∷ []) (tagOf the-type said) → (buffer : List ℕ) {r : Step} → r ≡ stepped s outcome.Malformed
+      → restored (desk s rows bytes) (leaves r screen stores) ≡ obeyed (meant said buffer) (desk s rows bytes)
   unfolding obeyed
   obeyed-other (written.Screen g) h = λ buffer q. kept q ∙ rw opened
   obeyed-other (written.Pane left top width height len) h = λ buffer q. kept q ∙ rw opened
   obeyed-other written.Open h = λ buffer q. kept q ∙ rw opened
-  obeyed-other (written.Put p a n) h = absurd (miss (0 ∷ 1 ∷ 2 ∷ 8 ∷ []) 3 tt h)
-  obeyed-other (written.Start p a) h = absurd (miss (0 ∷ 1 ∷ 2 ∷ 8 ∷ []) 4 tt h)
-  obeyed-other (written.Run p n) h = absurd (miss (0 ∷ 1 ∷ 2 ∷ 8 ∷ []) 5 tt h)
-  obeyed-other (written.Look p) h = absurd (miss (0 ∷ 1 ∷ 2 ∷ 8 ∷ []) 6 tt h)
-  obeyed-other (written.Pixel p x y) h = absurd (miss (0 ∷ 1 ∷ 2 ∷ 8 ∷ []) 7 tt h)
+  obeyed-other (written.Put p a n) h = absurd (miss (0 ∷ 1 ∷ 2 ∷ 10 ∷ []) 3 tt h)
+  obeyed-other (written.Start p a) h = absurd (miss (0 ∷ 1 ∷ 2 ∷ 10 ∷ []) 4 tt h)
+  obeyed-other (written.Run p n) h = absurd (miss (0 ∷ 1 ∷ 2 ∷ 10 ∷ []) 5 tt h)
+  obeyed-other (written.Look p) h = absurd (miss (0 ∷ 1 ∷ 2 ∷ 10 ∷ []) 6 tt h)
+  obeyed-other (written.Pixel p x y) h = absurd (miss (0 ∷ 1 ∷ 2 ∷ 10 ∷ []) 7 tt h)
+  obeyed-other (written.Peek p a) h = absurd (miss (0 ∷ 1 ∷ 2 ∷ 10 ∷ []) 8 tt h)
+  obeyed-other (written.Clear p) h = absurd (miss (0 ∷ 1 ∷ 2 ∷ 10 ∷ []) 9 tt h)
   obeyed-other written.Malformed h = λ buffer q. kept q
 
 -- the bytes in use, counted
@@ -52,7 +53,7 @@ module _ (s : Session) (screen stores : List ℕ) {k m : ℕ} (p : k ≡ min (s 
   pub lent-counted : lent (desk s screen stores) ≡ state (s .console) (take k screen) (take m stores)
   lent-counted = rw (take-counted (s .screen) screen p, take-counted (s .stores) stores q)
 
-  pub restored-counted : (t : Session) (o : Outcome) (rows bytes : List ℕ)
+  pub restored-counted : (t : Session) (o : LineOutcome) (rows bytes : List ℕ)
       → moved (desk t (rows ++ drop k screen) (bytes ++ drop m stores)) o ≡ restored (desk s screen stores) (moved (desk t rows bytes) o)
   unfolding restored
   restored-counted t o rows bytes = rw (drop-counted (s .screen) screen p, drop-counted (s .stores) stores q)

@@ -1,4 +1,4 @@
-// The lines of the calls obeyed: w, g, r, l and x. Each call is lent the screen's rows and the stores, and nothing more.
+// The lines of the calls obeyed: w, g, r, l and x, and k and c of the language of `calls`. Each call is lent the screen's rows and the stores, and nothing more.
 use parser::Line;
 use session::Session;
 use session::Step;
@@ -14,7 +14,7 @@ ghost use Rattle.model.specs.Calls.{exec, on};
 ghost use Rattle.model.specs.Calls as calls;
 ghost use Rattle.answers.specs.Answers.{state};
 ghost use Rattle.parser.specs.Lines.{meant};
-ghost use Rattle.session.specs.Desk.{desk, moved, lent, made, restored, obeyed};
+ghost use Rattle.session.specs.Desk.{desk, leaves, lent, made, restored, obeyed};
 
 // Put of the buffer's first bytes.
 fn put(
@@ -26,7 +26,7 @@ fn put(
     address: u32,
     count: u32,
 ) -> Step
-    ensures { λ r. ⌜ moved (desk (r .session) (now (screen .entry)) (now (stores .exit))) (r .outcome) ≡ made session 119 (exec (state (session .console) (now (screen .entry)) (now (stores .entry))) (on pane (calls.put address (take count (now (buffer .entry)))))) ⌝ }
+    ensures { λ r. ⌜ leaves r (now (screen .entry)) (now (stores .exit)) ≡ made session 119 (exec (state (session .console) (now (screen .entry)) (now (stores .entry))) (on pane (calls.put address (take count (now (buffer .entry)))))) ⌝ }
 {
     let n = counted(count as usize, buffer);
     let answered = console::put(screen, stores, session.console, pane, address, &buffer[..n]);
@@ -35,7 +35,7 @@ fn put(
 
 // Start.
 fn start(screen: &[u8], stores: &[u8], session: Session, pane: u32, address: u32) -> Step
-    ensures { λ r. ⌜ moved (desk (r .session) (now (screen .entry)) (now (stores .entry))) (r .outcome) ≡ made session 103 (exec (state (session .console) (now (screen .entry)) (now (stores .entry))) (on pane (calls.start address))) ⌝ }
+    ensures { λ r. ⌜ leaves r (now (screen .entry)) (now (stores .entry)) ≡ made session 103 (exec (state (session .console) (now (screen .entry)) (now (stores .entry))) (on pane (calls.start address))) ⌝ }
 {
     replied(
         session,
@@ -46,7 +46,7 @@ fn start(screen: &[u8], stores: &[u8], session: Session, pane: u32, address: u32
 
 // Run.
 fn run(screen: &mut [u8], stores: &mut [u8], session: Session, pane: u32, budget: u32) -> Step
-    ensures { λ r. ⌜ moved (desk (r .session) (now (screen .exit)) (now (stores .exit))) (r .outcome) ≡ made session 114 (exec (state (session .console) (now (screen .entry)) (now (stores .entry))) (on pane (calls.run budget))) ⌝ }
+    ensures { λ r. ⌜ leaves r (now (screen .exit)) (now (stores .exit)) ≡ made session 114 (exec (state (session .console) (now (screen .entry)) (now (stores .entry))) (on pane (calls.run budget))) ⌝ }
 {
     replied(
         session,
@@ -57,7 +57,7 @@ fn run(screen: &mut [u8], stores: &mut [u8], session: Session, pane: u32, budget
 
 // Look.
 fn look(screen: &[u8], stores: &[u8], session: Session, pane: u32) -> Step
-    ensures { λ r. ⌜ moved (desk (r .session) (now (screen .entry)) (now (stores .entry))) (r .outcome) ≡ made session 108 (exec (state (session .console) (now (screen .entry)) (now (stores .entry))) (on pane calls.look)) ⌝ }
+    ensures { λ r. ⌜ leaves r (now (screen .entry)) (now (stores .entry)) ≡ made session 108 (exec (state (session .console) (now (screen .entry)) (now (stores .entry))) (on pane calls.look)) ⌝ }
 {
     replied(
         session,
@@ -68,12 +68,34 @@ fn look(screen: &[u8], stores: &[u8], session: Session, pane: u32) -> Step
 
 // Pixel.
 fn pixel(screen: &[u8], stores: &[u8], session: Session, pane: u32, x: u32, y: u32) -> Step
-    ensures { λ r. ⌜ moved (desk (r .session) (now (screen .entry)) (now (stores .entry))) (r .outcome) ≡ made session 120 (exec (state (session .console) (now (screen .entry)) (now (stores .entry))) (on pane (calls.pixel x y))) ⌝ }
+    ensures { λ r. ⌜ leaves r (now (screen .entry)) (now (stores .entry)) ≡ made session 120 (exec (state (session .console) (now (screen .entry)) (now (stores .entry))) (on pane (calls.pixel x y))) ⌝ }
 {
     replied(
         session,
         b'x',
         console::pixel(screen, stores, session.console, pane, x, y),
+    )
+}
+
+// Peek.
+fn peek(screen: &[u8], stores: &[u8], session: Session, pane: u32, address: u32) -> Step
+    ensures { λ r. ⌜ leaves r (now (screen .entry)) (now (stores .entry)) ≡ made session 107 (exec (state (session .console) (now (screen .entry)) (now (stores .entry))) (on pane (calls.peek address))) ⌝ }
+{
+    replied(
+        session,
+        b'k',
+        console::peek(screen, stores, session.console, pane, address),
+    )
+}
+
+// Clear.
+fn clear(screen: &[u8], stores: &[u8], session: Session, pane: u32) -> Step
+    ensures { λ r. ⌜ leaves r (now (screen .entry)) (now (stores .entry)) ≡ made session 99 (exec (state (session .console) (now (screen .entry)) (now (stores .entry))) (on pane calls.clear)) ⌝ }
+{
+    replied(
+        session,
+        b'c',
+        console::clear(screen, stores, session.console, pane),
     )
 }
 
@@ -87,7 +109,7 @@ fn by_kind(
     session: Session,
 ) -> Step
     requires { ⌜ session .opened ≡ true ⌝ }
-    ensures { λ r. ⌜ ((rows bytes : List ℕ) → lent (desk session rows bytes) ≡ state (session .console) (now (screen .entry)) (now (stores .entry)) → restored (desk session rows bytes) (moved (desk (r .session) (now (screen .exit)) (now (stores .exit))) (r .outcome)) ≡ obeyed (meant said (now (buffer .entry))) (desk session rows bytes)) ⌝ }
+    ensures { λ r. ⌜ ((rows bytes : List ℕ) → lent (desk session rows bytes) ≡ state (session .console) (now (screen .entry)) (now (stores .entry)) → restored (desk session rows bytes) (leaves r (now (screen .exit)) (now (stores .exit))) ≡ obeyed (meant said (now (buffer .entry))) (desk session rows bytes)) ⌝ }
 {
     match said {
         Line::Put {
@@ -99,6 +121,8 @@ fn by_kind(
         Line::Run { pane, budget } => run(screen, stores, session, pane, budget),
         Line::Look { pane } => look(screen, stores, session, pane),
         Line::Pixel { pane, x, y } => pixel(screen, stores, session, pane, x, y),
+        Line::Peek { pane, address } => peek(screen, stores, session, pane, address),
+        Line::Clear { pane } => clear(screen, stores, session, pane),
         _ => malformed(session),
     }
 }
@@ -112,7 +136,7 @@ pub fn obey(
     session: Session,
 ) -> Step
     requires { ⌜ session .opened ≡ true ⌝ }
-    ensures { λ r. ⌜ moved (desk (r .session) (now (screen .exit)) (now (stores .exit))) (r .outcome) ≡ obeyed (meant said (now (buffer .entry))) (desk session (now (screen .entry)) (now (stores .entry))) ⌝ }
+    ensures { λ r. ⌜ leaves r (now (screen .exit)) (now (stores .exit)) ≡ obeyed (meant said (now (buffer .entry))) (desk session (now (screen .entry)) (now (stores .entry))) ⌝ }
 {
     let n = counted(session.screen as usize, screen);
     let m = counted(session.stores as usize, stores);

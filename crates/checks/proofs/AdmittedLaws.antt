@@ -1,21 +1,22 @@
 -- Where nothing is refused of a call on a pane, the call has all that it relies on.
-use mathlib.Core.Path.{_≡_}
+use mathlib.Core.Path.{_≡_, refl}
 use mathlib.Core.Bool.{false, _||_}
 use mathlib.Core.List.{List}
 use Prim.Native.Nat.{ℕ, _+_, _%_, _≤_, _<_}
 use native.Mathlib.Omega.{arith}
 use lib.Dec.{ltb, leb, eqb}
+use lib.ListN.{length}
 use borrow.Author.Tests.{ltb-false, leb-false, eqb-false}
 use Rattle.model.specs.declared.Geometry.{Geometry}
 use Rattle.model.specs.declared.Row.{Row}
+use Rattle.model.specs.declared.Console.{Console}
 use Rattle.model.specs.Ranges.{anyBelow}
 use Rattle.model.specs.Bitmaps.{paneSurface}
-use Rattle.model.specs.Setup.{rowAt, geometryBad, screenBytes, rectangleBad, storeBad, checks, mostStore, paneBad}
-use Rattle.model.specs.Calls.{State, rowOf, recordOf, storeOf, setupRefusal, callRefusal}
+use Rattle.model.specs.Setup.{rowAt, paneAt, geometryBad, screenBytes, rectangleBad, storeBad, checks, mostStore, paneBad}
+use Rattle.model.specs.Calls.{callChecks}
 use Rattle.model.proofs.Decisions.{either-false, cond-none, orElse-none}
 use Rattle.model.proofs.SetupLaws.{any-below}
 use Rattle.model.proofs.PixelLaws.{Fits}
-use Rattle.model.proofs.PartLaws.{length-part}
 use Rattle.tables.specs.Sizes.{Sized}
 use Rattle.checks.specs.Admitted.{Admitted}
 use Rattle.bitmaps.proofs.DepthLaws.{even-of}
@@ -82,14 +83,14 @@ checks-passed g n rows screen stores e =
       store = λ k h. storeBad-says stores (rowAt rows k) (any-below n (λ k. storeBad stores (rowAt rows k)) k (p9 .0) h);
     }
 
-pub callRefusal-admitted : (s : State) (k : ℕ) → callRefusal s k ≡ 0 → Admitted s k
-unfolding callRefusal setupRefusal rowOf recordOf storeOf
-callRefusal-admitted s k h =
-    let a = orElse-none (setupRefusal s) _ h in
-    let b = cond-none (leb (s .console .count) k) 0 _ (a .1) in
-    let c = cond-none (paneBad (s .console .geometry) (rowOf s k) (recordOf s k)) 11 0 (b .1) in
+pub callChecks-admitted : (c : Console) (screen stores k : ℕ) → callChecks c screen stores k ≡ 0 → Admitted c screen stores k
+unfolding callChecks
+callChecks-admitted c screen stores k h =
+    let a = orElse-none (checks (c .geometry) (c .count) (c .rows) screen stores) _ h in
+    let b = cond-none (leb (c .count) k) 0 _ (a .1) in
+    let d = cond-none (paneBad (c .geometry) (rowAt (c .rows) k) (paneAt (c .panes) k)) 11 0 (b .1) in
     let p = checks-passed _ _ _ _ _ (a .0) in
-    let l : k < s .console .count = leb-false (s .console .count) k (b .0) in
+    let l : k < c .count = leb-false (c .count) k (b .0) in
     let q = p .rectangle k l in
     let t = p .store k l in
     record {
@@ -106,13 +107,13 @@ callRefusal-admitted s k h =
         right = q .right;
         bottom = q .bottom;
         long = p .long;
-        part = length-part (s .stores) (rowOf s k .start) (rowOf s k .len) (t .room);
+        part = refl;
         even = t .even;
         most = t .most;
       };
-      good = paneBad-good (s .console .geometry) (rowOf s k) (recordOf s k) (c .0);
+      good = paneBad-good (c .geometry) (rowAt (c .rows) k) (paneAt (c .panes) k) (d .0);
     }
 
 -- the pane's pixels lie in the screen
-pub admitted-fits : (s : State) (k : ℕ) → Admitted s k → Fits (paneSurface (s .console .geometry) (rowOf s k)) (s .screen)
-admitted-fits s k a = pane-fits (s .console .geometry) (rowOf s k) (s .screen) _ (a .placed)
+pub admitted-fits : (c : Console) (screen : List ℕ) (stores k : ℕ) → Admitted c (length screen) stores k → Fits (paneSurface (c .geometry) (rowAt (c .rows) k)) screen
+admitted-fits c screen stores k a = pane-fits (c .geometry) (rowAt (c .rows) k) screen _ (a .placed)

@@ -4,7 +4,7 @@ use model::Console;
 use tables::refuse;
 use tables::setup_refusal;
 ghost use mathlib.Core.Path.{_≡_};
-ghost use Rattle.model.specs.Calls.{callRefusal};
+ghost use Rattle.model.specs.Calls.{callChecks};
 
 // No such pane.
 const REFUSE_PANE: u8 = 1;
@@ -12,11 +12,11 @@ const REFUSE_PANE: u8 = 1;
 // A pane record that no command leaves.
 const REFUSE_RECORD: u8 = 12;
 
-// The first refusal that applies to a call on the pane with a number, or 0.
-pub fn call_refusal(screen: &[u8], stores: &[u8], c: Console, number: u32) -> u8
-    ensures { λ r. ⌜ r ≡ callRefusal (record { console = c; screen = now (screen .entry); stores = now (stores .entry) }) number ⌝ }
+// The first refusal that applies to a call on the pane with a number, or 0; by the record and the lengths of the two buffers.
+pub fn call_refusal(screen: usize, stores: usize, c: Console, number: u32) -> u8
+    ensures { λ r. ⌜ r ≡ callChecks c screen stores number ⌝ }
 {
-    let first = setup_refusal(screen.len(), stores.len(), c);
+    let first = setup_refusal(screen, stores, c);
     if first != 0 {
         return first;
     }

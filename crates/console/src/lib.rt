@@ -17,6 +17,8 @@ ghost use Rattle.model.specs.Calls as calls;
 ghost use Rattle.model.specs.declared.Row.{Row};
 ghost use Rattle.answers.specs.Answers.{state, answer};
 
+mod face; // face.rt: every call called once by the name that it has here
+
 // What a caller names: the calls, what they answer, and a fresh pane record.
 pub use answers::Answered;
 pub use answers::fresh;
@@ -50,9 +52,9 @@ pub fn run(
     number: u32,
     budget: u32,
 ) -> Answered
-    ensures { λ r. ⌜ answer (r .console) (r .reply) (now (screen .exit)) (now (stores .exit)) ≡ exec (state console (now (screen .entry)) (now (stores .entry))) (on number (calls.run budget)) ⌝ }
+    ensures { λ r. ⌜ answer r (now (screen .exit)) (now (stores .exit)) ≡ exec (state console (now (screen .entry)) (now (stores .entry))) (on number (calls.run budget)) ⌝ }
 {
-    let first = call_refusal(screen, stores, console, number);
+    let first = call_refusal(screen.len(), stores.len(), console, number);
     if first != 0 {
         return refused(console, first);
     }

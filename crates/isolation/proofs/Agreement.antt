@@ -8,20 +8,19 @@ use borrow.Author.Tests.{lt-leb}
 use Rattle.model.specs.declared.Geometry.{Geometry}
 use Rattle.model.specs.declared.Row.{Row}
 use Rattle.model.specs.declared.Pane.{Pane}
-use Rattle.model.specs.declared.Reply.{Reply}
-use Rattle.model.specs.declared.Reply.the-variants as reply
+use Rattle.model.specs.Replies.{Response, refusedWith}
 use Rattle.model.specs.Ranges.{orElse}
 use Rattle.model.specs.Numbers.{refuseRecord}
 use Rattle.model.specs.Bitmaps.{paneSurface, pixels}
 use Rattle.model.specs.Setup.{paneBad}
-use Rattle.model.specs.Calls.{State, Call, Request, on, Answer, Outcome, recordOf, storeOf, part, ownRefusal, callRefusal, refusal, withPane, onPane, accepted, exec}
+use Rattle.model.specs.Calls.{State, Call, Request, on, Answer, Outcome, rowOf, recordOf, storeOf, part, ownRefusal, setupRefusal, callChecks, refusal, withPane, onPane, accepted, exec}
 use Rattle.model.proofs.CallLaws.{onPane-agree, exec-accepted, exec-refused}
 use Rattle.isolation.proofs.States.{Share, shareOf, On, on-fits}
 use Rattle.isolation.proofs.Frame.{taken, outcomeOf, accepted-record, accepted-store}
 
 -- what the pane gets of an answer: the reply, and its share of what is left
 pub record Told : Type 0 where
-  pub reply : Reply
+  pub reply : Response
   pub share : Share
 
 module _ (g : Geometry) (k : ℕ) (r : Row) where
@@ -34,7 +33,7 @@ module _ (g : Geometry) (k : ℕ) (r : Row) where
   ownNumber p x = orElse (cond (paneBad g r p) refuseRecord 0) (ownRefusal r p x)
 
   refusal-on : (s : State) → On g k r s → (x : Call) → refusal s (on k x) ≡ ownNumber (recordOf s k) x
-  unfolding refusal callRefusal ownNumber
+  unfolding refusal callChecks setupRefusal rowOf recordOf ownNumber
   refusal-on s o x = rw (o .sound .check, lt-leb (s .console .count) k (o .here), o .row, o .geometry)
 
   -- ## The work
@@ -98,7 +97,7 @@ module _ (g : Geometry) (k : ℕ) (r : Row) where
             ap toldBy (exec-accepted s (on k x) e) ∙ accepted-told s o x e ∙ same-work
             ∙ sym (ap toldBy (exec-accepted t (on k x) (sym same-refusal ∙ e)) ∙ accepted-told t q x (sym same-refusal ∙ e))
         go (no e) =
-            ap toldBy (exec-refused s (on k x) e) ∙ (λ i. record { reply = reply.Refused (same-refusal i); share = v i })
+            ap toldBy (exec-refused s (on k x) e) ∙ (λ i. record { reply = refusedWith (same-refusal i); share = v i })
             ∙ sym (ap toldBy (exec-refused t (on k x) (λ z. e (same-refusal ∙ z))))
 
   pub exec-own : (s t : State) → On g k r s → On g k r t → shareOf g k r s ≡ shareOf g k r t → (c : Request) → c .number ≡ k → toldBy (exec s c) ≡ toldBy (exec t c)

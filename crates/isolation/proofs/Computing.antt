@@ -12,9 +12,9 @@ use Rattle.model.specs.Effects.{effectOf}
 use Rattle.model.specs.Steps.{madeBy, planOf, judged, obey, step}
 use Rattle.model.specs.Runs.{stepped, follow, runs}
 use Rattle.model.specs.Setup.{geometryBad, rectangleBad, storeBad, sharePixel, shareByte, checks, progressBad, paneBad}
-use Rattle.model.specs.Calls.{part, inPart, ownRefusal, onPane, rowOf, recordOf, storeOf, setupRefusal, callRefusal, refusal, withPane, accepted, exec, setUp}
+use Rattle.model.specs.Calls.{part, inPart, ownRefusal, onPane, rowOf, recordOf, storeOf, setupRefusal, callChecks, refusal, withPane, accepted, exec, setUp}
 use Rattle.isolation.specs.TwoRuns.{after, callsOn, repliesOn, Accepted, SamePixels, storeIn}
 
 unfoldable pub machine : Unit {0}
-unfolding anyBelow listed joined bit num bitAt fieldAt splice putField gridBit placeBit placeShift inside pixels paneSurface surfaceOf paneBitmapBad ruleBroken blend change changes visible hits changesOf lineDots line seen copyDots copy blockBad shapeOf commandOf fetch decode clipOutside faultOf effectOf madeBy planOf judged obey step stepped follow runs geometryBad rectangleBad storeBad sharePixel shareByte checks progressBad paneBad part inPart ownRefusal onPane rowOf recordOf storeOf setupRefusal callRefusal refusal withPane accepted exec setUp after callsOn repliesOn Accepted SamePixels storeIn
+unfolding anyBelow listed joined bit num bitAt fieldAt splice putField gridBit placeBit placeShift inside pixels paneSurface surfaceOf paneBitmapBad ruleBroken blend change changes visible hits changesOf lineDots line seen copyDots copy blockBad shapeOf commandOf fetch decode clipOutside faultOf effectOf madeBy planOf judged obey step stepped follow runs geometryBad rectangleBad storeBad sharePixel shareByte checks progressBad paneBad part inPart ownRefusal onPane rowOf recordOf storeOf setupRefusal callChecks refusal withPane accepted exec setUp after callsOn repliesOn Accepted SamePixels storeIn
 machine = tt

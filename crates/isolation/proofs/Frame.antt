@@ -17,7 +17,7 @@ use Rattle.model.specs.Bitmaps.{rowWords, gridBit, placeBit, paneSurface, pixel
 use Rattle.model.specs.Numbers.{refusePane, refuseRecord}
 use Rattle.model.specs.Record.{noPane}
 use Rattle.model.specs.Setup.{paneBad}
-use Rattle.model.specs.Calls.{State, Request, Answer, Outcome, rowOf, recordOf, storeOf, part, ownRefusal, setupRefusal, callRefusal, refusal, refused, withPane, onPane, accepted, exec}
+use Rattle.model.specs.Calls.{State, Request, Answer, Outcome, rowOf, recordOf, storeOf, part, ownRefusal, setupRefusal, callChecks, callRefusal, refusal, refused, withPane, onPane, accepted, exec}
 use Rattle.model.proofs.Decisions.{cond-ind, cond-none, orElse-none}
 use Rattle.model.proofs.PlaceLaws.{Depth, apart}
 use Rattle.model.proofs.PartLaws.{length-part, part-ext, length-inPart, part-inPart, inPart-out}
@@ -38,7 +38,7 @@ abbrev pub paneRefusal : State → ℕ → ℕ
 paneRefusal s k = cond (leb (s .console .count) k) refusePane (cond (paneBad (s .console .geometry) (rowOf s k) (recordOf s k)) refuseRecord 0)
 
 pub taken : (s : State) (c : Request) → refusal s c ≡ 0 → Taken s c
-unfolding refusal callRefusal
+unfolding refusal callChecks setupRefusal rowOf recordOf
 taken s c e =
     let a = orElse-none (callRefusal s (c .number)) (ownRefusal (rowOf s (c .number)) (recordOf s (c .number)) (c .call)) e in
     let b = orElse-none (setupRefusal s) (paneRefusal s (c .number)) (a .0) in

@@ -8,7 +8,7 @@ use lib.Dec.{eqb}
 use borrow.Author.Tests.{eqb-true, eqb-false}
 use Rattle.model.specs.declared.Geometry.{Geometry}
 use Rattle.model.specs.declared.Row.{Row}
-use Rattle.model.specs.declared.Reply.{Reply}
+use Rattle.model.specs.Replies.{Response}
 use Rattle.model.specs.Calls.{State, Request, exec}
 use Rattle.model.proofs.Decisions.{split}
 use Rattle.isolation.specs.TwoRuns.{after, callsOn, repliesOn}
@@ -18,10 +18,10 @@ use Rattle.isolation.proofs.Agreement.{Told, toldBy, exec-own}
 
 -- what a list of calls shows a pane: the replies to its own calls, and its share of what is left
 pub record Account : Type 0 where
-  pub replies : List Reply
+  pub replies : List Response
   pub share : Share
 
-withReply : Reply → Account → Account
+withReply : Response → Account → Account
 withReply x a = record { replies = x ∷ a .replies; share = a .share }
 
 module _ (g : Geometry) (k : ℕ) (r : Row) where

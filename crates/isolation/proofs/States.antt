@@ -1,7 +1,7 @@
 -- States that set-up's checks accept, what no call changes in them, one pane's share of a state, and the state that set-up leaves.
 -- Two states agree on a pane where its shares of them are equal.
 use mathlib.Core.Path.{_≡_, refl, sym, ap, _∙_, subst}
-use mathlib.Core.List.{List}
+use mathlib.Core.List.{List, []}
 use Prim.Native.Nat.{ℕ, _*_, _≤_, _<_}
 use native.Mathlib.Omega.{arith}
 use native.Mathlib.Nat.{mul-le-mul-right}
@@ -11,7 +11,7 @@ use borrow.Author.Tests.{eqb-true, eq-eqb}
 use Rattle.model.specs.declared.Geometry.{Geometry}
 use Rattle.model.specs.declared.Row.{Row}
 use Rattle.model.specs.declared.Pane.{Pane}
-use Rattle.model.specs.declared.Reply.the-variants as reply
+use Rattle.model.specs.Replies.{refusedWith, acceptedWith}
 use Rattle.model.specs.Bitmaps.{rowWords, paneSurface, pixels}
 use Rattle.model.specs.Record.{fresh}
 use Rattle.model.specs.Setup.{rowAt, checks}
@@ -114,7 +114,7 @@ begun a = record {
 accepted-check : (a : State) → Accepted a → setupRefusal a ≡ 0
 unfolding Accepted setUp
 accepted-check a h = split (eqb (setupRefusal a) 0) (eqb-true (setupRefusal a) 0) λ e.
-    let n : reply.Refused (setupRefusal a) ≡ reply.Done = sym (ap (λ (z : Answer). z .reply) (cond-false _ _ e)) ∙ h in
+    let n : refusedWith (setupRefusal a) ≡ acceptedWith [] = sym (ap (λ (z : Answer). z .reply) (cond-false _ _ e)) ∙ h in
     let z : _≡_ {A = ℕ} 0 1 = cc in
     absurd (omega arith)
 

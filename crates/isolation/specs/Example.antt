@@ -4,14 +4,12 @@
 -- The screen is 6 by 2 at four bits a pixel. A row is two words, low byte first: columns 0 to 3 are the digits of the first word, columns 4
 -- and 5 the first two digits of the second, whose other two are no pixel. So a row's byte 0 holds columns 2 and 3, its byte 1 columns 0 and 1.
 use mathlib.Core.Path.{_≡_}
-use mathlib.Core.Bool.{false}
 use mathlib.Core.List.{List, [], _∷_, _++_}
 use Prim.Native.Nat.{ℕ}
 use lib.ListN.{replicate}
 use Rattle.model.specs.declared.Geometry.{Geometry}
 use Rattle.model.specs.declared.Row.{Row}
-use Rattle.model.specs.declared.Reply.{Reply}
-use Rattle.model.specs.declared.Reply.the-variants as reply
+use Rattle.model.specs.Replies.{Response, refusedWith, acceptedWith, natural, address}
 use Rattle.model.specs.Calls.{State, Request, on, put, start, run, look, pixel, peek, clear, setUp}
 use Rattle.isolation.specs.TwoRuns.{after, repliesOn, TwoRuns, InNoPixels, InNoStore}
 
@@ -86,16 +84,15 @@ secondCalls =
 -- ## What comes of it
 
 -- the replies to pane 0's calls
-abbrev pub replies : List Reply
+abbrev pub replies : List Response
 replies =
-    reply.Done ∷ reply.Done ∷ reply.Ran (record { commands = 4; status = 1; fault = 0 }) ∷ reply.Refused 3 ∷ reply.Value 2
-    ∷ reply.Ran (record { commands = 2; status = 2; fault = 0 }) ∷ reply.Value 3 ∷ reply.Refused 5 ∷ reply.Refused 2 ∷ reply.Refused 4
-    ∷ reply.Seen (record {
-      progress = record { status = 2; fault = 0; pointer = 46 };
-      position = record { x = 1; y = 1 };
-      pick = false;
-      trap = false;
-    }) ∷ []
+    -- put, start, run: four commands, status 1, fault 0
+    acceptedWith [] ∷ acceptedWith [] ∷ acceptedWith (natural 4 ∷ natural 1 ∷ natural 0 ∷ [])
+    -- start at an odd address, pixel, run: two commands, ended; pixels in and outside the pane, peek past the end, run at status 2
+    ∷ refusedWith 3 ∷ acceptedWith (natural 2 ∷ []) ∷ acceptedWith (natural 2 ∷ natural 2 ∷ natural 0 ∷ [])
+    ∷ acceptedWith (natural 3 ∷ []) ∷ refusedWith 5 ∷ refusedWith 2 ∷ refusedWith 4
+    -- look: ended, no fault, pointer 2E hex, position (1,1), no flag
+    ∷ acceptedWith (natural 2 ∷ natural 0 ∷ address 0x2E ∷ natural 1 ∷ natural 1 ∷ natural 0 ∷ natural 0 ∷ []) ∷ []
 
 pub record Worked : Type 0 where
   pub supposed : TwoRuns sixByTwo 0 row first second firstCalls secondCalls

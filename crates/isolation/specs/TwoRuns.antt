@@ -15,10 +15,9 @@ use Prim.Native.Nat.{ℕ, _+_, _/_, _≤_, _<_}
 use lib.Dec.{eqb}
 use Rattle.model.specs.declared.Geometry.{Geometry}
 use Rattle.model.specs.declared.Row.{Row}
-use Rattle.model.specs.declared.Reply.{Reply}
-use Rattle.model.specs.declared.Reply.the-variants as reply
 use Rattle.model.specs.Words.{bitAt}
 use Rattle.model.specs.Bitmaps.{paneSurface, placeBit, pixels}
+use Rattle.model.specs.Replies.{Response, acceptedWith}
 use Rattle.model.specs.Calls.{State, Request, exec, setUp, rowOf, recordOf, part}
 
 -- ## Whole lists of calls
@@ -41,12 +40,12 @@ callsOn k [] = []
 callsOn k (c ∷ cs) = consIf (eqb (c .number) k) c (callsOn k cs)
 
 -- "A reply is the refusal, or acceptance with its values": the replies to the calls on pane k, in order
-unfoldable pub repliesOn : ℕ → State → List Request → List Reply
+unfoldable pub repliesOn : ℕ → State → List Request → List Response
 repliesOn k s [] = []
 repliesOn k s (c ∷ cs) = consIf (eqb (c .number) k) (exec s c .reply) (repliesOn k (exec s c .state) cs)
 
 unfoldable pub Accepted : State → Type 0
-Accepted a = setUp a .reply ≡ reply.Done
+Accepted a = setUp a .reply ≡ acceptedWith []
 
 -- ## Two runs
 

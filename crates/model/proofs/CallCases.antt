@@ -13,7 +13,8 @@ use Rattle.model.specs.declared.Font.the-variants as font
 use Rattle.model.specs.Figures.{neg}
 use Rattle.model.specs.Runs.{runs}
 use Rattle.model.specs.Setup.{rowAt}
-use Rattle.model.specs.Calls.{State, Answer, Request, on, put, start, run, look, pixel, peek, clear, exec, setUp, values}
+use Rattle.model.specs.Calls.{State, Answer, Request, on, put, start, run, look, pixel, peek, clear, exec, setUp}
+use Rattle.model.proofs.Scripts.{values}
 use Rattle.model.proofs.Computing.{machine}
 
 -- ## Two panes

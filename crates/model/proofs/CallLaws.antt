@@ -15,8 +15,7 @@ use Rattle.model.specs.declared.Pane.{Pane}
 use Rattle.model.specs.declared.Command.{Command}
 use Rattle.model.specs.declared.Decoded.{Decoded}
 use Rattle.model.specs.declared.Decoded.the-variants.{Do, End, Fault}
-use Rattle.model.specs.declared.Reply.{Reply}
-use Rattle.model.specs.declared.Reply.the-variants as reply
+use Rattle.model.specs.Replies.{Response, acceptedWith, natural, ranValues}
 use Rattle.model.specs.Bitmaps.{Surface, paneSurface, inside, pixels}
 use Rattle.model.specs.Pixels.{Change, change, changes}
 use Rattle.model.specs.Commands.{decode}
@@ -131,7 +130,7 @@ module _ (g : Geometry) (r : Row) (p : Pane) where
     pub size : length (o .store) ≡ length store
     pub frame : Framed (paneSurface g r) s (o .screen)
 
-  local-screen : (a : Reply) (q : Pane) (s store new : List ℕ) → length new ≡ length store → Local s store (outcome a q s new)
+  local-screen : (a : Response) (q : Pane) (s store new : List ℕ) → length new ≡ length store → Local s store (outcome a q s new)
   local-screen a q s store new e = record { size = e; frame = framed-refl (paneSurface g r) s }
 
   pub onPane-local : (s store : List ℕ) → Fits (paneSurface g r) s → length store ≡ r .len → (k : Call) → ownRefusal r p k ≡ 0 → Local s store (onPane g r p s store k)
@@ -154,7 +153,7 @@ module _ (g : Geometry) (r : Row) (p : Pane) where
     pub shown : pixels (paneSurface g r) (a .screen) ≡ pixels (paneSurface g r) (b .screen)
 
   module _ (s t store : List ℕ) (f : Fits (paneSurface g r) s) (h : Fits (paneSurface g r) t) (e : pixels (paneSurface g r) s ≡ pixels (paneSurface g r) t) where
-    same-screen : (a : Reply) (q : Pane) (new : List ℕ) → SameOutcome (outcome a q s new) (outcome a q t new)
+    same-screen : (a : Response) (q : Pane) (new : List ℕ) → SameOutcome (outcome a q s new) (outcome a q t new)
     same-screen a q new = record { reply = refl; pane = refl; store = refl; shown = e }
 
     pub onPane-agree : (k : Call) → SameOutcome (onPane g r p s store k) (onPane g r p t store k)
@@ -165,13 +164,13 @@ module _ (g : Geometry) (r : Row) (p : Pane) where
       where
         go : SameRan g r (runs g r n p s store) (runs g r n p t store) → SameOutcome (ran (runs g r n p s store)) (ran (runs g r n p t store))
         go w = record {
-          reply = ap₂ (λ (c : ℕ) (q : Pane). reply.Ran (record { commands = c; status = q .progress .status; fault = q .progress .fault })) (w .count) (w .pane);
+          reply = ap₂ (λ (c : ℕ) (q : Pane). acceptedWith (ranValues (record { commands = c; status = q .progress .status; fault = q .progress .fault }))) (w .count) (w .pane);
           pane = w .pane;
           store = w .store;
           shown = w .shown;
         }
     onPane-agree look = same-screen _ _ _
-    onPane-agree (pixel x y) = record { reply = ap (λ (see : ℕ → ℕ → ℕ). reply.Value (see x y)) e; pane = refl; store = refl; shown = e }
+    onPane-agree (pixel x y) = record { reply = ap (λ (see : ℕ → ℕ → ℕ). acceptedWith (natural (see x y) ∷ [])) e; pane = refl; store = refl; shown = e }
     onPane-agree (peek a) = same-screen _ _ _
     onPane-agree clear = same-screen _ _ _
 

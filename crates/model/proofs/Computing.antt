@@ -13,7 +13,7 @@ use Rattle.model.specs.Effects.{effectOf}
 use Rattle.model.specs.Steps.{madeBy, planOf, judged, obey, step}
 use Rattle.model.specs.Runs.{stepped, follow, runs}
 use Rattle.model.specs.Setup.{geometryBad, rectangleBad, storeBad, sharePixel, shareByte, checks, progressBad, paneBad}
-use Rattle.model.specs.Calls.{part, inPart, ownRefusal, onPane, rowOf, recordOf, storeOf, setupRefusal, callRefusal, refusal, withPane, accepted, exec, setUp}
+use Rattle.model.specs.Calls.{part, inPart, ownRefusal, onPane, rowOf, recordOf, storeOf, setupRefusal, callChecks, refusal, withPane, accepted, exec, setUp}
 
 -- drawing
 unfoldable pub figuring : Unit {0}
@@ -22,5 +22,5 @@ figuring = tt
 
 -- and everything else
 unfoldable pub machine : Unit {0}
-unfolding figuring shapeOf commandOf fetch decode clipOutside arrayBad stringBad descriptorsBad faultOf effectOf madeBy planOf judged obey step stepped follow runs geometryBad rectangleBad storeBad sharePixel shareByte checks progressBad paneBad part inPart ownRefusal onPane rowOf recordOf storeOf setupRefusal callRefusal refusal withPane accepted exec setUp
+unfolding figuring shapeOf commandOf fetch decode clipOutside arrayBad stringBad descriptorsBad faultOf effectOf madeBy planOf judged obey step stepped follow runs geometryBad rectangleBad storeBad sharePixel shareByte checks progressBad paneBad part inPart ownRefusal onPane rowOf recordOf storeOf setupRefusal callChecks refusal withPane accepted exec setUp
 machine = tt

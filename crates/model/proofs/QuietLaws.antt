@@ -6,7 +6,7 @@ use lib.Dec.{eqb}
 use lib.ListN.{getD, set, take, drop, take-append-drop}
 use Rattle.model.specs.Record.{Pane, noPane}
 use Rattle.model.specs.Calls.{State, on, Call, look, pixel, peek, Answer, outcome, part, inPart, rowOf, recordOf, storeOf, onPane, withPane, accepted, refusal, refused, exec}
-use Rattle.model.specs.declared.Reply.{Reply}
+use Rattle.model.specs.Replies.{Response}
 use Rattle.model.proofs.Decisions.{cond-ind}
 
 set-same : (l : List Pane) (k : ℕ) → set l k (getD l k noPane) ≡ l
@@ -19,7 +19,7 @@ unfolding inPart part
 inPart-part l at n = ap {B = List ℕ} (λ r. take at l ++ r) (take-append-drop n (drop at l)) ∙ take-append-drop at l
 
 -- an outcome that keeps the pane's record, the screen and the store leaves the console as it was
-keeps : (s : State) (k : ℕ) (a : Reply) → withPane s k (outcome a (recordOf s k) (s .screen) (storeOf s k)) .state ≡ s
+keeps : (s : State) (k : ℕ) (a : Response) → withPane s k (outcome a (recordOf s k) (s .screen) (storeOf s k)) .state ≡ s
 unfolding withPane recordOf storeOf
 keeps s k a = λ i. record {
   console = record { geometry = s .console .geometry; count = s .console .count; rows = s .console .rows; panes = set-same (s .console .panes) k i };

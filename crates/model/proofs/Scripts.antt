@@ -1,9 +1,22 @@
 -- What tests are made of: a store in pieces, and what a list of calls is told and leaves.
 use mathlib.Core.List.{List, [], _∷_, _++_}
 use Prim.Native.Nat.{ℕ, _+_}
-use lib.IntN.{ℤ}
+use lib.IntN.{ℤ, pos}
 use lib.ListN.{length, take, drop}
-use Rattle.model.specs.Calls.{State, Request, exec, setUp, values}
+use Rattle.model.specs.Replies.{Value, number, address, Response, refusedWith, acceptedWith}
+use Rattle.model.specs.Calls.{State, Request, exec, setUp}
+
+-- ## Replies
+
+abbrev numbers : List Value → List ℤ
+numbers [] = []
+numbers (number z ∷ vs) = z ∷ numbers vs
+numbers (address a ∷ vs) = pos a ∷ numbers vs
+
+-- a reply as numbers: the refusal, or 0 and the values
+abbrev pub values : Response → List ℤ
+values (refusedWith n) = pos n ∷ []
+values (acceptedWith vs) = pos 0 ∷ numbers vs
 
 -- ## Calls, one after the other
 

@@ -3,19 +3,15 @@ use Prim.Native.Nat.{ℕ, _+_, _%_}
 use mathlib.Core.List.{List, [], _∷_, _++_}
 use mathlib.Core.Bool.{cond, _&&_}
 use lib.Dec.{ltb, leb, eqb}
-use lib.IntN.{ℤ, pos}
 use lib.ListN.{getD, set, length, take, drop, replicate}
 use Rattle.model.specs.Ranges.{orElse}
 use Rattle.model.specs.Numbers.{statusRunning, refusePane, refuseEnd, refuseOdd, refuseStatus, refusePixel, refuseRecord}
-use Rattle.model.specs.Words.{digit}
-use Rattle.model.specs.Coordinates.{coord}
 use Rattle.model.specs.Bitmaps.{Geometry, Row, paneSurface, pixels}
 use Rattle.model.specs.Record.{Pane, fresh, noReturns, withProgress, withReturns}
 use Rattle.model.specs.Runs.{Finish, runs}
 use Rattle.model.specs.Setup.{rowAt, paneAt, checks, paneBad}
 pub use Rattle.model.specs.declared.Console.{Console}
-pub use Rattle.model.specs.declared.Reply.{Reply}
-use Rattle.model.specs.declared.Reply.the-variants as reply
+use Rattle.model.specs.Replies.{Response, refusedWith, acceptedWith, natural, ranValues, viewValues}
 
 -- the console record and the two buffers, as lent to a call and as left by it
 pub record State : Type 0 where
@@ -71,40 +67,41 @@ ownRefusal r p clear = 0
 -- ## An accepted call on one pane: its record, the screen, and its own part of the stores
 
 pub record Outcome : Type 0 where
-  pub reply : Reply
+  pub reply : Response
   pub pane : Pane
   pub screen : List ℕ
   pub store : List ℕ
 
-abbrev pub outcome : Reply → Pane → List ℕ → List ℕ → Outcome
+abbrev pub outcome : Response → Pane → List ℕ → List ℕ → Outcome
 outcome a p screen store = record { reply = a; pane = p; screen = screen; store = store }
 
 -- "pointer at the address, status 1, fault 0, no return addresses, the rest kept"
 abbrev pub started : Pane → ℕ → Pane
 started p a = withReturns (withProgress p (record { status = statusRunning; fault = 0; pointer = a })) noReturns
 
--- "commands done, status, fault"
+-- "else commands done, status, fault"
 abbrev pub ran : Finish → Outcome
 ran f =
-    outcome (reply.Ran (record { commands = f .count; status = f .pane .progress .status; fault = f .pane .progress .fault })) (f .pane) (f .screen) (f .store)
+    outcome (acceptedWith (ranValues (record { commands = f .count; status = f .pane .progress .status; fault = f .pane .progress .fault })))
+    (f .pane) (f .screen) (f .store)
 
 -- "status, fault, pointer, position, pick and trap flag"
-abbrev pub shown : Pane → Reply
-shown p = reply.Seen (record { progress = p .progress; position = p .position; pick = p .flags .pick; trap = p .flags .trap })
+abbrev pub shown : Pane → Response
+shown p = acceptedWith (viewValues (record { progress = p .progress; position = p .position; pick = p .flags .pick; trap = p .flags .trap }))
 
 unfoldable pub onPane : Geometry → Row → Pane → List ℕ → List ℕ → Call → Outcome
 -- "else they stand in the store from the address on, all else kept"
-onPane g r p screen store (put a bytes) = outcome reply.Done p screen (inPart store a (length bytes) bytes)
-onPane g r p screen store (start a) = outcome reply.Done (started p a) screen store
+onPane g r p screen store (put a bytes) = outcome (acceptedWith []) p screen (inPart store a (length bytes) bytes)
+onPane g r p screen store (start a) = outcome (acceptedWith []) (started p a) screen store
 onPane g r p screen store (run budget) = ran (runs g r budget p screen store)
 -- "Look, pixel and peek change nothing"
 onPane g r p screen store look = outcome (shown p) p screen store
 -- "else its value"
-onPane g r p screen store (pixel x y) = outcome (reply.Value (pixels (paneSurface g r) screen x y)) p screen store
+onPane g r p screen store (pixel x y) = outcome (acceptedWith (natural (pixels (paneSurface g r) screen x y) ∷ [])) p screen store
 -- "else the byte"
-onPane g r p screen store (peek a) = outcome (reply.Value (getD store a 0)) p screen store
+onPane g r p screen store (peek a) = outcome (acceptedWith (natural (getD store a 0) ∷ [])) p screen store
 -- "fresh pane record, store and pixels kept"
-onPane g r p screen store clear = outcome reply.Done fresh screen store
+onPane g r p screen store clear = outcome (acceptedWith []) fresh screen store
 
 -- ## The console
 
@@ -122,19 +119,22 @@ storeOf s k = part (s .stores) (rowOf s k .start) (rowOf s k .len)
 unfoldable pub setupRefusal : State → ℕ
 setupRefusal s = checks (s .console .geometry) (s .console .count) (s .console .rows) (length (s .screen)) (length (s .stores))
 
--- "Every call: set-up's checks again on the record lent; 1 no such pane; 12 ..": 0 for none
-unfoldable pub callRefusal : State → ℕ → ℕ
-callRefusal s k =
-    orElse (setupRefusal s)
-    (cond (leb (s .console .count) k) refusePane
-    (cond (paneBad (s .console .geometry) (rowOf s k) (recordOf s k)) refuseRecord 0))
+-- "Every call: set-up's checks again on the record lent; 1 no such pane; 12 ..", by the record and the lengths of the two buffers; 0 for none
+unfoldable pub callChecks : Console → ℕ → ℕ → ℕ → ℕ
+callChecks c screen stores k =
+    orElse (checks (c .geometry) (c .count) (c .rows) screen stores)
+    (cond (leb (c .count) k) refusePane
+    (cond (paneBad (c .geometry) (rowAt (c .rows) k) (paneAt (c .panes) k)) refuseRecord 0))
+
+abbrev pub callRefusal : State → ℕ → ℕ
+callRefusal s k = callChecks (s .console) (length (s .screen)) (length (s .stores)) k
 
 -- the first refusal that applies; 0 for none
 unfoldable pub refusal : State → Request → ℕ
 refusal s c = orElse (callRefusal s (c .number)) (ownRefusal (rowOf s (c .number)) (recordOf s (c .number)) (c .call))
 
 pub record Answer : Type 0 where
-  pub reply : Reply
+  pub reply : Response
   pub state : State
 
 -- an outcome put in place of what the pane had
@@ -157,7 +157,7 @@ accepted s c =
 
 -- "record and buffers keep every bit"
 abbrev pub refused : State → ℕ → Answer
-refused s n = record { reply = reply.Refused n; state = s }
+refused s n = record { reply = refusedWith n; state = s }
 
 -- "The first that applies is replied, alone"
 unfoldable pub exec : State → Request → Answer
@@ -168,7 +168,7 @@ unfoldable pub setUp : State → Answer
 setUp s =
     cond (eqb (setupRefusal s) 0)
     (record {
-      reply = reply.Done;
+      reply = acceptedWith [];
       state = record {
         console = record { geometry = s .console .geometry; count = s .console .count; rows = s .console .rows; panes = replicate 8 fresh };
         screen = s .screen;
@@ -176,14 +176,3 @@ setUp s =
       };
     })
     (refused s (setupRefusal s))
-
--- ## The paper's number and values of a reply: "A reply is the refusal, or acceptance with its values"
-
-abbrev pub values : Reply → List ℤ
-values (reply.Refused n) = pos n ∷ []
-values reply.Done = pos 0 ∷ []
-values (reply.Ran r) = pos 0 ∷ pos (r .commands) ∷ pos (r .status) ∷ pos (r .fault) ∷ []
-values (reply.Seen v) =
-    pos 0 ∷ pos (v .progress .status) ∷ pos (v .progress .fault) ∷ pos (v .progress .pointer) ∷ coord (v .position .x) ∷ coord (v .position .y)
-    ∷ pos (digit (v .pick)) ∷ pos (digit (v .trap)) ∷ []
-values (reply.Value n) = pos 0 ∷ pos n ∷ []

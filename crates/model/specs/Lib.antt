@@ -17,5 +17,6 @@ pub mod Effects
 pub mod Steps
 pub mod Runs
 pub mod Setup
+pub mod Replies
 pub mod Calls
 pub mod Figures

@@ -9,6 +9,8 @@ use Rattle.model.specs.declared.Geometry.{Geometry}
 use Rattle.model.specs.Calls.{Request, on}
 use Rattle.model.specs.Calls as calls
 use Rattle.fields.specs.Fields.{fieldsOf, field, spelledBytes, lineNumbers}
+use Rattle.parser.specs.declared.Language.{Language}
+use Rattle.parser.specs.declared.Language.the-variants as language
 use Rattle.parser.specs.declared.Line as declared
 use Rattle.parser.specs.declared.Line.the-variants as written
 
@@ -62,9 +64,22 @@ lookLine fs = reading 1 (10 ∷ []) fs (λ v. asking 108 (on (v 0) calls.look))
 unfoldable pub pixelLine : List (List ℕ) → Line
 pixelLine fs = reading 3 (10 ∷ 10 ∷ 10 ∷ []) fs (λ v. asking 120 (on (v 0) (calls.pixel (v 1) (v 2))))
 
+-- peek, in the language of `calls`: `k,pane,address`, with a hex address
+unfoldable pub peekLine : List (List ℕ) → Line
+peekLine fs = reading 2 (10 ∷ 16 ∷ []) fs (λ v. asking 107 (on (v 0) (calls.peek (v 1))))
+
+-- clear, in the language of `calls`: `c,pane`
+unfoldable pub clearLine : List (List ℕ) → Line
+clearLine fs = reading 1 (10 ∷ []) fs (λ v. asking 99 (on (v 0) calls.clear))
+
+-- a line by a letter that `panes` does not have: `calls` has k and c besides
+unfoldable pub byFurtherLetter : Language → ℕ → List (List ℕ) → Line
+byFurtherLetter language.Panes c fs = malformed
+byFurtherLetter language.Calls c fs = cond (eqb c 107) (peekLine fs) (cond (eqb c 99) (clearLine fs) malformed)
+
 -- a line by its letter: s, p, o, w, g, r, l or x, as bytes
-unfoldable pub byLetter : ℕ → List (List ℕ) → Line
-byLetter c fs =
+unfoldable pub byLetter : Language → ℕ → List (List ℕ) → Line
+byLetter language c fs =
     cond (eqb c 115) (screenLine fs)
     (cond (eqb c 112) (paneLine fs)
     (cond (eqb c 111) (openLine fs)
@@ -72,16 +87,16 @@ byLetter c fs =
     (cond (eqb c 103) (startLine fs)
     (cond (eqb c 114) (runLine fs)
     (cond (eqb c 108) (lookLine fs)
-    (cond (eqb c 120) (pixelLine fs) malformed)))))))
+    (cond (eqb c 120) (pixelLine fs) (byFurtherLetter language c fs))))))))
 
 -- its first field is the letter alone
-unfoldable pub lettered : List ℕ → List (List ℕ) → Line
-lettered [] fs = malformed
-lettered (c ∷ []) fs = byLetter c fs
-lettered (c ∷ d ∷ l) fs = malformed
+unfoldable pub lettered : Language → List ℕ → List (List ℕ) → Line
+lettered language [] fs = malformed
+lettered language (c ∷ []) fs = byLetter language c fs
+lettered language (c ∷ d ∷ l) fs = malformed
 
-unfoldable pub lineOf : List ℕ → Line
-lineOf l = lettered (field (fieldsOf l) 0) (fieldsOf l)
+unfoldable pub lineOf : Language → List ℕ → Line
+lineOf language l = lettered language (field (fieldsOf l) 0) (fieldsOf l)
 
 -- ## The same as the code holds it: the bytes of a put stand at the start of a buffer
 
@@ -94,4 +109,6 @@ meant (written.Start p a) buffer = asking 103 (on p (calls.start a))
 meant (written.Run p n) buffer = asking 114 (on p (calls.run n))
 meant (written.Look p) buffer = asking 108 (on p calls.look)
 meant (written.Pixel p x y) buffer = asking 120 (on p (calls.pixel x y))
+meant (written.Peek p a) buffer = asking 107 (on p (calls.peek a))
+meant (written.Clear p) buffer = asking 99 (on p calls.clear)
 meant written.Malformed buffer = malformed

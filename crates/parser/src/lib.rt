@@ -9,10 +9,16 @@ ghost use mathlib.Core.List.{List};
 ghost use Prim.Native.Nat.{ℕ, _≤_};
 ghost use lib.ListN.{length};
 ghost use Rattle.fields.specs.Fields.{fieldsOf};
-ghost use Rattle.parser.specs.Lines.{meant, lineOf, byLetter, screenLine, paneLine, openLine, putLine, startLine, runLine, lookLine, pixelLine};
+ghost use Rattle.parser.specs.Lines.{meant, lineOf, byLetter, screenLine, paneLine, openLine, putLine, startLine, runLine, lookLine, pixelLine, peekLine, clearLine, byFurtherLetter};
 
-// A line: `s`, `p`, `o`, and the calls `w`, `g`, `r`, `l` and `x`, or one that is malformed. The bytes of a put, so many, stand at the start
-// of a buffer beside it.
+// The two languages: that of the program `panes`, and that of `calls`, which has the letters `k` and `c` for peek and clear besides.
+pub enum Language {
+    Panes,
+    Calls,
+}
+
+// A line: `s`, `p`, `o`, and the calls `w`, `g`, `r`, `l`, `x`, `k` and `c`, or one that is malformed. The bytes of a put, so many, stand at
+// the start of a buffer beside it.
 pub enum Line {
     Screen(Geometry),
     Pane {
@@ -43,6 +49,13 @@ pub enum Line {
         pane: u32,
         x: u32,
         y: u32,
+    },
+    Peek {
+        pane: u32,
+        address: u32,
+    },
+    Clear {
+        pane: u32,
     },
     Malformed,
 }
@@ -177,11 +190,52 @@ fn pixel(line: &[u8]) -> Line
     }
 }
 
+// The line `k,pane,address`: peek.
+fn peek(line: &[u8]) -> Line
+    ensures { λ r. ⌜ ((buffer : List ℕ) → meant r buffer ≡ peekLine (fieldsOf (now (line .entry)))) ⌝ }
+{
+    let n = numbers(line, 2, PANE_AND_ADDRESS, 2);
+    if n.bad {
+        return Line::Malformed;
+    }
+    let v = n.values;
+    Line::Peek {
+        pane: v[0],
+        address: v[1],
+    }
+}
+
+// The line `c,pane`: clear.
+fn clear(line: &[u8]) -> Line
+    ensures { λ r. ⌜ ((buffer : List ℕ) → meant r buffer ≡ clearLine (fieldsOf (now (line .entry)))) ⌝ }
+{
+    let n = numbers(line, 1, DECIMAL, 1);
+    if n.bad {
+        return Line::Malformed;
+    }
+    let v = n.values;
+    Line::Clear { pane: v[0] }
+}
+
+// A line by a letter that `panes` does not have.
+fn by_further_letter(language: Language, letter: u8, line: &[u8]) -> Line
+    ensures { λ r. ⌜ ((buffer : List ℕ) → meant r buffer ≡ byFurtherLetter language letter (fieldsOf (now (line .entry)))) ⌝ }
+{
+    match language {
+        Language::Panes => Line::Malformed,
+        Language::Calls => match letter {
+            b'k' => peek(line),
+            b'c' => clear(line),
+            _ => Line::Malformed,
+        },
+    }
+}
+
 // A line by its letter.
-fn by_letter(letter: u8, line: &[u8], buffer: &mut [u8]) -> Line
+fn by_letter(language: Language, letter: u8, line: &[u8], buffer: &mut [u8]) -> Line
     requires { ⌜ length (now line) ≤ 8192 ⌝ }
     requires { ⌜ 4096 ≤ length (now buffer) ⌝ }
-    ensures { λ r. ⌜ meant r (now (buffer .exit)) ≡ byLetter letter (fieldsOf (now (line .entry))) ⌝ }
+    ensures { λ r. ⌜ meant r (now (buffer .exit)) ≡ byLetter language letter (fieldsOf (now (line .entry))) ⌝ }
 {
     match letter {
         b's' => screen(line),
@@ -192,18 +246,18 @@ fn by_letter(letter: u8, line: &[u8], buffer: &mut [u8]) -> Line
         b'r' => run(line),
         b'l' => look(line),
         b'x' => pixel(line),
-        _ => Line::Malformed,
+        _ => by_further_letter(language, letter, line),
     }
 }
 
-// What a line says. Its first field is the letter alone.
-pub fn parse(line: &[u8], buffer: &mut [u8]) -> Line
+// What a line says in a language. Its first field is the letter alone.
+pub fn parse(language: Language, line: &[u8], buffer: &mut [u8]) -> Line
     requires { ⌜ length (now line) ≤ 8192 ⌝ }
     requires { ⌜ 4096 ≤ length (now buffer) ⌝ }
-    ensures { λ r. ⌜ meant r (now (buffer .exit)) ≡ lineOf (now (line .entry)) ⌝ }
+    ensures { λ r. ⌜ meant r (now (buffer .exit)) ≡ lineOf language (now (line .entry)) ⌝ }
 {
     if first_end(line) != 1 {
         return Line::Malformed;
     }
-    by_letter(line[0], line, buffer)
+    by_letter(language, line[0], line, buffer)
 }

@@ -59,9 +59,9 @@ pub fn pixel(
     x: u32,
     y: u32,
 ) -> Answered
-    ensures { λ r. ⌜ answer (r .console) (r .reply) (now (screen .entry)) (now (stores .entry)) ≡ exec (state console (now (screen .entry)) (now (stores .entry))) (on number (calls.pixel x y)) ⌝ }
+    ensures { λ r. ⌜ answer r (now (screen .entry)) (now (stores .entry)) ≡ exec (state console (now (screen .entry)) (now (stores .entry))) (on number (calls.pixel x y)) ⌝ }
 {
-    let first = call_refusal(screen, stores, console, number);
+    let first = call_refusal(screen.len(), stores.len(), console, number);
     if first != 0 {
         return refused(console, first);
     }

@@ -1,18 +1,15 @@
 -- How long texts are, at the most.
 use mathlib.Core.Bool.{Bool, true, false, cond}
 use mathlib.Core.List.{List, [], _∷_, _++_}
-use Prim.Native.Nat.{ℕ, zero, suc, _+_, _/_, _%_, _≤_}
+use Prim.Native.Nat.{ℕ, zero, suc, _+_, _*_, _/_, _%_, _≤_}
 use native.Mathlib.Omega.{arith}
 use lib.Dec.{ltb}
 use lib.IntN.{ℤ, pos, negsuc}
 use lib.ListN.{length, length-append}
 use Rattle.io.specs.Digits.{glyph}
-use Rattle.model.specs.Coordinates.{coord}
-use Rattle.model.specs.Words.{digit}
-use Rattle.model.specs.declared.Reply.{Reply}
-use Rattle.model.specs.declared.Reply.the-variants as reply
+use Rattle.model.specs.Replies.{Value, number, address, Response, refusedWith, acceptedWith}
 use Rattle.numerals.specs.Numerals.{numeral, decimalText, hexText, signedText, listed}
-use Rattle.printer.specs.Replies.{valueTexts, replyText}
+use Rattle.printer.specs.Replies.{valueText, valueTexts, responseTexts, replyText}
 
 one-or : (t : Bool) (x : ℕ) (l : List ℕ) (n : ℕ) → 1 ≤ n → length l ≤ n → length (cond t (x ∷ []) l) ≤ n
 one-or true x l n h k = h
@@ -41,30 +38,29 @@ listed-length : (t : List ℕ) (ts : List (List ℕ)) (m n : ℕ) → length t �
 unfolding listed
 listed-length t ts m n h k = omega (arith, length-append t (listed ts))
 
-none-length : length (listed []) ≤ 0
+-- a value takes at most twelve bytes with its comma
+value-length : (v : Value) → length (valueText v) ≤ 11
+value-length (number z) = signed-length z
+value-length (address a) = omega (arith, hex-length a)
+
+values-length : (vs : List Value) → length (listed (valueTexts vs)) ≤ 12 * length vs
 unfolding listed
-none-length = omega arith
+values-length [] = omega arith
+values-length (v ∷ vs) =
+    omega (arith, listed-length (valueText v) (valueTexts vs) 11 (12 * length vs) (value-length v) (values-length vs))
 
-at-most : {a b : ℕ} → a ≤ b → b ≤ 88 → a ≤ 88
-at-most h k = omega arith
+-- a refusal, or acceptance with at most seven values
+abbrev pub Short : Response → Type 0
+Short (refusedWith n) = Unit {0}
+Short (acceptedWith vs) = length vs ≤ 7
 
-values-length : (r : Reply) → length (listed (valueTexts r)) ≤ 88
-values-length (reply.Refused n) = at-most (listed-length _ _ 10 0 (decimal-length n) none-length) (omega arith)
-values-length reply.Done = at-most (listed-length _ _ 10 0 (decimal-length 0) none-length) (omega arith)
-values-length (reply.Ran r) =
-    at-most (listed-length _ _ 10 33 (decimal-length 0)
-    (listed-length _ _ 10 22 (decimal-length (r .commands)) (listed-length _ _ 10 11 (decimal-length (r .status)) (listed-length _ _ 10 0 (decimal-length (r .fault)) none-length)))) (omega arith)
-values-length (reply.Seen v) =
-    at-most (listed-length _ _ 10 77 (decimal-length 0)
-    (listed-length _ _ 10 66 (decimal-length (v .progress .status))
-    (listed-length _ _ 10 55 (decimal-length (v .progress .fault))
-    (listed-length _ _ 8 46 (hex-length (v .progress .pointer))
-    (listed-length _ _ 11 34 (signed-length (coord (v .position .x)))
-    (listed-length _ _ 11 22 (signed-length (coord (v .position .y)))
-    (listed-length _ _ 10 11 (decimal-length (digit (v .pick))) (listed-length _ _ 10 0 (decimal-length (digit (v .trap))) none-length)))))))) (omega arith)
-values-length (reply.Value n) = at-most (listed-length _ _ 10 11 (decimal-length 0) (listed-length _ _ 10 0 (decimal-length n) none-length)) (omega arith)
+response-length : (r : Response) → Short r → length (listed (responseTexts r)) ≤ 94
+unfolding listed numeral
+response-length (refusedWith n) h = omega (arith, listed-length (decimalText n) [] 10 0 (decimal-length n) (omega arith))
+response-length (acceptedWith vs) h =
+    omega (arith, listed-length (decimalText 0) (valueTexts vs) 1 (12 * length vs) (omega arith) (values-length vs))
 
--- a reply takes at most 96 bytes
-pub reply-length : (letter : ℕ) (r : Reply) → length (replyText letter r) ≤ 96
+-- such a reply takes at most 96 bytes
+pub reply-length : (letter : ℕ) (r : Response) → Short r → length (replyText letter r) ≤ 96
 unfolding replyText
-reply-length letter r = omega (arith, length-append (listed (valueTexts r)) (10 ∷ []), values-length r)
+reply-length letter r h = omega (arith, length-append (listed (responseTexts r)) (10 ∷ []), response-length r h)

@@ -12,13 +12,14 @@ use numerals::push;
 use numerals::value;
 ghost use Prim.Native.Nat.{_≤_};
 ghost use lib.ListN.{length};
+ghost use Rattle.model.specs.Replies.{ranValues, progressValues, viewValues, response};
 ghost use Rattle.numerals.specs.Numerals.{listed, Wrote};
-ghost use Rattle.printer.specs.Replies.{ranTexts, progressTexts, seenTexts, valueTexts, replyText, malformedText};
+ghost use Rattle.printer.specs.Replies.{valueTexts, responseTexts, replyText, malformedText};
 
 // The values of run: commands, status, fault.
 fn ran(out: &mut [u8], at: usize, r: Ran) -> usize
     requires { ⌜ at ≤ length (now out) ⌝ }
-    ensures { λ end. ⌜ Wrote (now (out .entry)) at (listed (ranTexts r)) (now (out .exit)) end ⌝ }
+    ensures { λ end. ⌜ Wrote (now (out .entry)) at (listed (valueTexts (ranValues r))) (now (out .exit)) end ⌝ }
 {
     let commands = value(out, at, r.commands);
     let status = value(out, commands, r.status as u32);
@@ -28,7 +29,7 @@ fn ran(out: &mut [u8], at: usize, r: Ran) -> usize
 // The first values of look: status, fault, pointer.
 fn progress(out: &mut [u8], at: usize, p: Progress) -> usize
     requires { ⌜ at ≤ length (now out) ⌝ }
-    ensures { λ r. ⌜ Wrote (now (out .entry)) at (listed (progressTexts p)) (now (out .exit)) r ⌝ }
+    ensures { λ r. ⌜ Wrote (now (out .entry)) at (listed (valueTexts (progressValues p))) (now (out .exit)) r ⌝ }
 {
     let status = value(out, at, p.status as u32);
     let fault = value(out, status, p.fault as u32);
@@ -38,7 +39,7 @@ fn progress(out: &mut [u8], at: usize, p: Progress) -> usize
 // The values of look: status, fault, pointer, x, y, pick, trap.
 fn seen(out: &mut [u8], at: usize, view: View) -> usize
     requires { ⌜ at ≤ length (now out) ⌝ }
-    ensures { λ r. ⌜ Wrote (now (out .entry)) at (listed (seenTexts view)) (now (out .exit)) r ⌝ }
+    ensures { λ r. ⌜ Wrote (now (out .entry)) at (listed (valueTexts (viewValues view))) (now (out .exit)) r ⌝ }
 {
     let p = view.progress;
     let first = progress(out, at, p);
@@ -51,7 +52,7 @@ fn seen(out: &mut [u8], at: usize, view: View) -> usize
 // The refusal's number, or 0 and the values.
 fn values(out: &mut [u8], at: usize, reply: Reply) -> usize
     requires { ⌜ at ≤ length (now out) ⌝ }
-    ensures { λ r. ⌜ Wrote (now (out .entry)) at (listed (valueTexts reply)) (now (out .exit)) r ⌝ }
+    ensures { λ r. ⌜ Wrote (now (out .entry)) at (listed (responseTexts (response reply))) (now (out .exit)) r ⌝ }
 {
     match reply {
         Reply::Refused(number) => value(out, at, number as u32),
@@ -74,7 +75,7 @@ fn values(out: &mut [u8], at: usize, reply: Reply) -> usize
 // The line of a reply.
 pub fn reply(out: &mut [u8], at: usize, letter: u8, said: Reply) -> usize
     requires { ⌜ at ≤ length (now out) ⌝ }
-    ensures { λ r. ⌜ Wrote (now (out .entry)) at (replyText letter said) (now (out .exit)) r ⌝ }
+    ensures { λ r. ⌜ Wrote (now (out .entry)) at (replyText letter (response said)) (now (out .exit)) r ⌝ }
 {
     let first = push(out, at, letter);
     let last = values(out, first, said);

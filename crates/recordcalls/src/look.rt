@@ -8,13 +8,14 @@ use model::Pane;
 use model::Reply;
 use model::View;
 ghost use mathlib.Core.Path.{_≡_};
+ghost use Rattle.model.specs.Replies.{response};
 ghost use Rattle.model.specs.Calls.{exec, on, shown};
 ghost use Rattle.model.specs.Calls as calls;
 ghost use Rattle.answers.specs.Answers.{state, answer};
 
 // Status, fault, pointer, position, pick and trap flag of a pane record.
 fn shown(pane: Pane) -> Reply
-    ensures { λ r. ⌜ r ≡ shown pane ⌝ }
+    ensures { λ r. ⌜ response r ≡ shown pane ⌝ }
 {
     let progress = pane.progress;
     let position = pane.position;
@@ -30,9 +31,9 @@ fn shown(pane: Pane) -> Reply
 
 // Shows the record of the pane with a number; changes nothing, and has no refusal of its own.
 pub fn look(screen: &[u8], stores: &[u8], console: Console, number: u32) -> Answered
-    ensures { λ r. ⌜ answer (r .console) (r .reply) (now (screen .entry)) (now (stores .entry)) ≡ exec (state console (now (screen .entry)) (now (stores .entry))) (on number calls.look) ⌝ }
+    ensures { λ r. ⌜ answer r (now (screen .entry)) (now (stores .entry)) ≡ exec (state console (now (screen .entry)) (now (stores .entry))) (on number calls.look) ⌝ }
 {
-    let first = call_refusal(screen, stores, console, number);
+    let first = call_refusal(screen.len(), stores.len(), console, number);
     if first != 0 {
         return refused(console, first);
     }

@@ -7,7 +7,8 @@ use Prim.Native.String.{String, [], _∷_}
 use Rattle.model.proofs.Computing.{machine}
 use Rattle.fields.specs.Numbers.{longer, extended, andDigits, spelledNumber}
 use Rattle.fields.specs.Fields.{onFirst, pieces, spelledBytes, numbersOf, lineNumbers}
-use Rattle.parser.specs.Lines.{screenLine, paneLine, openLine, putLine, startLine, runLine, lookLine, pixelLine, byLetter, lettered, lineOf}
+use Rattle.parser.specs.declared.Language.the-variants as language
+use Rattle.parser.specs.Lines.{screenLine, paneLine, openLine, putLine, startLine, runLine, lookLine, pixelLine, byFurtherLetter, byLetter, lettered, lineOf}
 use Rattle.numerals.specs.Numerals.{numeral, listed}
 use Rattle.printer.specs.Replies.{replyText}
 use Rattle.session.specs.Desk.{made, restored, obeyed}
@@ -19,7 +20,7 @@ bytes [] = none
 bytes (c ∷ s) = code c then bytes s
 
 pub example :
-    answered (bytes "s,16,2,1\np,0,0,8,2,32\no\nw,0,0,003d010000000100\ng,0,0\nr,0,5\nl,0\nx,0,3,1\ng,1,0\n")
+    answered language.Panes (bytes "s,16,2,1\np,0,0,8,2,32\no\nw,0,0,003d010000000100\ng,0,0\nr,0,5\nl,0\nx,0,3,1\ng,1,0\n")
     ≡ bytes "o,0\nw,0\ng,0\nr,0,1,2,0\nl,0,2,0,6,0,0,0,0\nx,0,0\ng,1\n"
-unfolding machine longer extended andDigits spelledNumber onFirst pieces spelledBytes numbersOf lineNumbers screenLine paneLine openLine putLine startLine runLine lookLine pixelLine byLetter lettered lineOf numeral listed replyText made restored obeyed printed answered
+unfolding machine longer extended andDigits spelledNumber onFirst pieces spelledBytes numbersOf lineNumbers screenLine paneLine openLine putLine startLine runLine lookLine pixelLine byFurtherLetter byLetter lettered lineOf numeral listed replyText made restored obeyed printed answered
 example = refl

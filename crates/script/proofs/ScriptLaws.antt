@@ -7,6 +7,7 @@ use borrow.Author.Tests.{lt-ltb, le-ltb}
 use lib.ListN.{length, take, drop, length-drop}
 use lib.Seq.{drop-drop}
 use Rattle.fields.specs.Fields.{before, lineFeed, linesOf}
+use Rattle.parser.specs.declared.Language.{Language}
 use Rattle.parser.specs.Lines.{lineOf}
 use Rattle.fields.proofs.PieceLaws.{linesOf-next, linesOf-none}
 use Rattle.model.proofs.Decisions.{cond-true, cond-false}
@@ -14,8 +15,7 @@ use Rattle.numerals.specs.Numerals.{Wrote}
 use Rattle.printer.specs.Replies.{malformedText}
 use Rattle.numerals.proofs.WroteLaws.{Wrote-then, Wrote-none}
 use Rattle.session.specs.declared.Session.{Session}
-use Rattle.session.specs.declared.Outcome.{Outcome}
-use Rattle.session.specs.Desk.{Moved, desk, moved, begun, obeyed}
+use Rattle.session.specs.Desk.{LineOutcome, Moved, desk, moved, begun, obeyed}
 use Rattle.script.specs.Scripts.{textOf, printed, empty, mostScript, answered}
 
 -- a script with lines left: the next, and those after its end
@@ -27,12 +27,12 @@ lines-next script from end h e =
     let next : from + suc (before lineFeed (drop from script)) ≡ end + 1 = omega arith in
     linesOf-next (drop from script) some ∙ rw (count, drop-drop, next)
 
-module _ (script screen₀ stores₀ out₀ : List ℕ) where
+module _ (language : Language) (script screen₀ stores₀ out₀ : List ℕ) where
   -- The lines before `from` are obeyed and their replies written: what is left prints the rest of what the whole script prints.
   pub record Along (session : Session) (screen stores out : List ℕ) (written from : ℕ) : Type 0 where
     pub text : List ℕ
     pub wrote : Wrote out₀ 0 text out written
-    pub rest : text ++ printed (linesOf (drop from script)) (desk session screen stores) ≡ printed (linesOf script) (desk begun screen₀ stores₀)
+    pub rest : text ++ printed language (linesOf (drop from script)) (desk session screen stores) ≡ printed language (linesOf script) (desk begun screen₀ stores₀)
 
   -- no line
   pub along-none : {s : Session} → s ≡ begun → Along s screen₀ stores₀ out₀ 0 0
@@ -40,7 +40,7 @@ module _ (script screen₀ stores₀ out₀ : List ℕ) where
       record {
         text = [];
         wrote = Wrote-none out₀ 0 (omega arith);
-        rest = ap (λ (s : Session). printed (linesOf script) (desk s screen₀ stores₀)) e;
+        rest = ap (λ (s : Session). printed language (linesOf script) (desk s screen₀ stores₀)) e;
       }
 
   -- one line more
@@ -49,7 +49,7 @@ module _ (script screen₀ stores₀ out₀ : List ℕ) where
       → length out ≡ length out₀
       → from < length script
       → end ≡ from + before lineFeed (drop from script)
-      → {o : Outcome} → moved (desk t screen′ stores′) o ≡ obeyed (lineOf (take (end - from) (drop from script))) (desk s screen stores)
+      → {o : LineOutcome} → moved (desk t screen′ stores′) o ≡ obeyed (lineOf language (take (end - from) (drop from script))) (desk s screen stores)
       → Wrote out written (textOf o) out′ written′
       → Along t screen′ stores′ out′ written′ (end + 1)
   unfolding printed
@@ -59,30 +59,30 @@ module _ (script screen₀ stores₀ out₀ : List ℕ) where
         wrote = Wrote-then (a .wrote) same w;
         rest =
             append-assoc (a .text) _ _
-            ∙ ap (λ (m : Moved). a .text ++ (textOf (m .outcome) ++ printed (linesOf (drop (end + 1) script)) (m .desk))) d
-            ∙ ap (λ (ls : List (List ℕ)). a .text ++ printed ls (desk s screen stores)) (sym (lines-next script from end h e))
+            ∙ ap (λ (m : Moved). a .text ++ (textOf (m .outcome) ++ printed language (linesOf (drop (end + 1) script)) (m .desk))) d
+            ∙ ap (λ (ls : List (List ℕ)). a .text ++ printed language ls (desk s screen stores)) (sym (lines-next script from end h e))
             ∙ a .rest;
       }
 
   -- every line
   pub along-all : {s : Session} {screen stores out : List ℕ} {written from : ℕ} → Along s screen stores out written from → length script ≤ from
-      → take written out ≡ take (length out₀) (printed (linesOf script) (desk begun screen₀ stores₀))
+      → take written out ≡ take (length out₀) (printed language (linesOf script) (desk begun screen₀ stores₀))
   unfolding printed
   along-all {s} {screen} {stores} {from} a h =
       let none : linesOf (drop from script) ≡ [] = linesOf-none (drop from script) (omega (arith, length-drop from script)) in
       a .wrote .bytes
       ∙ ap (take (length out₀))
-      (sym (append-nil (a .text)) ∙ ap (λ (ls : List (List ℕ)). a .text ++ printed ls (desk s screen stores)) (sym none) ∙ a .rest)
+      (sym (append-nil (a .text)) ∙ ap (λ (ls : List (List ℕ)). a .text ++ printed language ls (desk s screen stores)) (sym none) ∙ a .rest)
 
 -- ## The whole script
 
 -- one past the limit
-pub answered-long : (script : List ℕ) → mostScript < length script → answered script ≡ malformedText
+pub answered-long : (language : Language) (script : List ℕ) → mostScript < length script → answered language script ≡ malformedText
 unfolding answered
-answered-long script h = cond-true _ _ (lt-ltb mostScript (length script) h)
+answered-long language script h = cond-true _ _ (lt-ltb mostScript (length script) h)
 
 -- one within it, on buffers of zeros
-pub answered-lines : (script : List ℕ) → length script ≤ mostScript → {screen stores : List ℕ} → screen ≡ empty .screen → stores ≡ empty .stores
-    → printed (linesOf script) (desk begun screen stores) ≡ answered script
+pub answered-lines : (language : Language) (script : List ℕ) → length script ≤ mostScript → {screen stores : List ℕ} → screen ≡ empty .screen → stores ≡ empty .stores
+    → printed language (linesOf script) (desk begun screen stores) ≡ answered language script
 unfolding answered
-answered-lines script h e f = (λ i. printed (linesOf script) (desk begun (e i) (f i))) ∙ sym (cond-false _ _ (le-ltb mostScript (length script) h))
+answered-lines language script h e f = (λ i. printed language (linesOf script) (desk begun (e i) (f i))) ∙ sym (cond-false _ _ (le-ltb mostScript (length script) h))

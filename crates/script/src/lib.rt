@@ -1,5 +1,6 @@
-// The script program on slices: lines in, replies out. Each line is taken apart into what it says, obeyed, and its reply written: `answered`
+// The script program on slices: lines in, replies out, in the language of `panes` or of `calls`. Each line is taken apart into what it says, obeyed, and its reply written: `answered`
 // (specs/Scripts.antt) is the definition of the whole program.
+use parser::Language;
 use session::Outcome;
 use session::Session;
 use session::Step;
@@ -9,7 +10,7 @@ ghost use lib.ListN.{length, take, replicate};
 ghost use Rattle.io.specs.Counts.{Counts};
 ghost use Rattle.fields.specs.Fields.{linesOf};
 ghost use Rattle.parser.specs.Lines.{lineOf, meant};
-ghost use Rattle.session.specs.Desk.{desk, moved, obeyed, begun};
+ghost use Rattle.session.specs.Desk.{desk, leaves, outcomeOf, obeyed, begun};
 ghost use Rattle.numerals.specs.Numerals.{Wrote};
 ghost use Rattle.script.specs.Scripts.{textOf, answered, printed, room};
 
@@ -18,10 +19,10 @@ const MOST_SCRIPT: usize = 8192;
 
 // Obeys the lines of a script and writes the replies to the start of a buffer. Answers how many bytes they take. What the buffer has no room
 // for is left out: nothing, where it has `room`.
-pub fn answer(script: &[u8], out: &mut [u8]) -> usize
+pub fn answer(language: Language, script: &[u8], out: &mut [u8]) -> usize
     ensures { λ r. ⌜ Counts r (now (out .exit)) ⌝ }
-    ensures { λ r. ⌜ take r (now (out .exit)) ≡ take (length (now (out .entry))) (answered (now (script .entry))) ⌝ }
-    ensures { λ r. ⌜ (room ≤ length (now (out .entry)) → take r (now (out .exit)) ≡ answered (now (script .entry))) ⌝ }
+    ensures { λ r. ⌜ take r (now (out .exit)) ≡ take (length (now (out .entry))) (answered language (now (script .entry))) ⌝ }
+    ensures { λ r. ⌜ (room ≤ length (now (out .entry)) → take r (now (out .exit)) ≡ answered language (now (script .entry))) ⌝ }
 {
     if script.len() > MOST_SCRIPT {
         return printer::malformed(out, 0);
@@ -29,7 +30,14 @@ pub fn answer(script: &[u8], out: &mut [u8]) -> usize
     let mut screen = screen_room();
     let mut stores = stores_room();
     let mut scratch = bytes_room();
-    lines(script, &mut screen, &mut stores, &mut scratch, out)
+    lines(
+        language,
+        script,
+        &mut screen,
+        &mut stores,
+        &mut scratch,
+        out,
+    )
 }
 
 // Room for all that a script can print: `room` bytes, as the array's type says.
@@ -60,6 +68,7 @@ fn bytes_room() -> [u8; 4096]
 
 // Obeys line after line, and answers how many bytes of replies there are.
 fn lines(
+    language: Language,
     script: &[u8],
     screen: &mut [u8],
     stores: &mut [u8],
@@ -69,7 +78,7 @@ fn lines(
     requires { ⌜ length (now script) ≤ 8192 ⌝ }
     requires { ⌜ 4096 ≤ length (now scratch) ⌝ }
     ensures { λ r. ⌜ Counts r (now (out .exit)) ⌝ }
-    ensures { λ r. ⌜ take r (now (out .exit)) ≡ take (length (now (out .entry))) (printed (linesOf (now (script .entry))) (desk begun (now (screen .entry)) (now (stores .entry)))) ⌝ }
+    ensures { λ r. ⌜ take r (now (out .exit)) ≡ take (length (now (out .entry))) (printed language (linesOf (now (script .entry))) (desk begun (now (screen .entry)) (now (stores .entry)))) ⌝ }
 {
     let mut session = session::begun();
     let mut written = 0;
@@ -77,7 +86,14 @@ fn lines(
     while from < script.len() {
         let end = fields::line_end(script, from);
         let next = end + 1;
-        let step = one_line(&script[from..end], screen, stores, scratch, session);
+        let step = one_line(
+            language,
+            &script[from..end],
+            screen,
+            stores,
+            scratch,
+            session,
+        );
         let outcome = step.outcome;
         written = print(out, written, outcome);
         session = step.session;
@@ -88,6 +104,7 @@ fn lines(
 
 // Takes a line apart and obeys it.
 fn one_line(
+    language: Language,
     line: &[u8],
     screen: &mut [u8],
     stores: &mut [u8],
@@ -96,9 +113,9 @@ fn one_line(
 ) -> Step
     requires { ⌜ length (now line) ≤ 8192 ⌝ }
     requires { ⌜ 4096 ≤ length (now scratch) ⌝ }
-    ensures { λ r. ⌜ moved (desk (r .session) (now (screen .exit)) (now (stores .exit))) (r .outcome) ≡ obeyed (lineOf (now (line .entry))) (desk session (now (screen .entry)) (now (stores .entry))) ⌝ }
+    ensures { λ r. ⌜ leaves r (now (screen .exit)) (now (stores .exit)) ≡ obeyed (lineOf language (now (line .entry))) (desk session (now (screen .entry)) (now (stores .entry))) ⌝ }
 {
-    let said = parser::parse(line, scratch);
+    let said = parser::parse(language, line, scratch);
     obey(said, screen, stores, scratch, session)
 }
 
@@ -110,7 +127,7 @@ fn obey(
     scratch: &[u8],
     session: Session,
 ) -> Step
-    ensures { λ r. ⌜ moved (desk (r .session) (now (screen .exit)) (now (stores .exit))) (r .outcome) ≡ obeyed (meant said (now (scratch .entry))) (desk session (now (screen .entry)) (now (stores .entry))) ⌝ }
+    ensures { λ r. ⌜ leaves r (now (screen .exit)) (now (stores .exit)) ≡ obeyed (meant said (now (scratch .entry))) (desk session (now (screen .entry)) (now (stores .entry))) ⌝ }
 {
     if session.opened {
         return calling::obey(said, screen, stores, scratch, session);
@@ -121,7 +138,7 @@ fn obey(
 // What a line comes to, printed.
 fn print(out: &mut [u8], at: usize, outcome: Outcome) -> usize
     requires { ⌜ at ≤ length (now out) ⌝ }
-    ensures { λ r. ⌜ Wrote (now (out .entry)) at (textOf outcome) (now (out .exit)) r ⌝ }
+    ensures { λ r. ⌜ Wrote (now (out .entry)) at (textOf (outcomeOf outcome)) (now (out .exit)) r ⌝ }
 {
     match outcome {
         Outcome::Malformed => printer::malformed(out, at),

@@ -9,7 +9,7 @@ use lib.ListN.{length, take, drop, take-append-drop, drop-of-length-le}
 use lib.Seq.{length-take-le, take-all}
 use borrow.Author.Tests.{leb-true, leb-false}
 use Rattle.io.specs.Counts.{Counts}
-use Rattle.model.specs.declared.Reply.{Reply}
+use Rattle.model.specs.Replies.{Response, response}
 use Rattle.model.specs.Calls.{Answer}
 use Rattle.model.proofs.Decisions.{split}
 use Rattle.answers.specs.Answers.{answer}
@@ -18,7 +18,7 @@ use Rattle.session.specs.declared.Session.{Session}
 use Rattle.session.specs.declared.Outcome.{Outcome}
 use Rattle.session.specs.declared.Outcome.the-variants as outcome
 use Rattle.session.specs.declared.Step.{Step}
-use Rattle.session.specs.Desk.{desk, moved, stepped, withConsole, made, restored}
+use Rattle.session.specs.Desk.{LineOutcome, desk, moved, stepped, outcomeOf, leaves, withConsole, made, restored}
 
 -- ## The bytes in use of a buffer
 
@@ -44,18 +44,18 @@ module _ (n : ℕ) (l : List ℕ) where
 -- ## Steps
 
 -- what a step leaves, by what it is
-pub step-is : {r : Step} {s : Session} {o : Outcome} → r ≡ stepped s o → (screen stores : List ℕ) → moved (desk (r .session) screen stores) (r .outcome) ≡ moved (desk s screen stores) o
-step-is e screen stores = ap (λ (r : Step). moved (desk (r .session) screen stores) (r .outcome)) e
+pub step-is : {r : Step} {s : Session} {o : Outcome} → r ≡ stepped s o → (screen stores : List ℕ) → leaves r screen stores ≡ moved (desk s screen stores) (outcomeOf o)
+step-is e screen stores = ap (λ (r : Step). leaves r screen stores) e
 
 -- a call was made, and the session may follow from its reply
-pub step-made : (f : Reply → Session) (letter : ℕ) {r : Step} {b : Answered} {screen stores : List ℕ} {a : Answer}
-    → r ≡ stepped (withConsole (f (b .reply)) (b .console)) (outcome.Replied letter (b .reply)) → answer (b .console) (b .reply) screen stores ≡ a
-    → moved (desk (r .session) screen stores) (r .outcome) ≡ made (f (a .reply)) letter a
+pub step-made : (f : Response → Session) (letter : ℕ) {r : Step} {b : Answered} {screen stores : List ℕ} {a : Answer}
+    → r ≡ stepped (withConsole (f (response (b .reply))) (b .console)) (outcome.Replied letter (b .reply)) → answer b screen stores ≡ a
+    → leaves r screen stores ≡ made (f (a .reply)) letter a
 unfolding made
 step-made f letter {screen} {stores} e q = step-is e screen stores ∙ ap (λ (a : Answer). made (f (a .reply)) letter a) q
 
 -- buffers that a line kept
-pub restored-kept : (s t : Session) (o : Outcome) (screen stores : List ℕ)
+pub restored-kept : (s t : Session) (o : LineOutcome) (screen stores : List ℕ)
     → restored (desk s screen stores) (moved (desk t (take (s .screen) screen) (take (s .stores) stores)) o) ≡ moved (desk t screen stores) o
 unfolding restored
 restored-kept s t o screen stores = rw (take-append-drop (s .screen) screen, take-append-drop (s .stores) stores)

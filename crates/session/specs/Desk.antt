@@ -7,10 +7,9 @@ use lib.ListN.{take, drop, set, replicate}
 use Rattle.model.specs.declared.Geometry.{Geometry}
 use Rattle.model.specs.declared.Row.{Row}
 use Rattle.model.specs.declared.Console.{Console}
-use Rattle.model.specs.declared.Reply.{Reply}
-use Rattle.model.specs.declared.Reply.the-variants as reply
 use Rattle.model.specs.Record.{fresh}
 use Rattle.model.specs.Setup.{noRow, screenBytes}
+use Rattle.model.specs.Replies.{Response, refusedWith, acceptedWith, response}
 use Rattle.model.specs.Calls.{State, Answer, exec, setUp}
 use Rattle.answers.specs.Answers.{state}
 use Rattle.session.specs.declared.Session.{Session}
@@ -28,17 +27,32 @@ pub record Desk : Type 0 where
 abbrev pub desk : Session → List ℕ → List ℕ → Desk
 desk s screen stores = record { session = s; screen = screen; stores = stores }
 
+-- what a line comes to: a ?, nothing to print, or a reply under the line's letter
+pub data LineOutcome : Type 0 where
+  question : LineOutcome
+  silence : LineOutcome
+  replying : ℕ → Response → LineOutcome
+
 -- what a line leaves, and what it comes to
 pub record Moved : Type 0 where
   pub desk : Desk
-  pub outcome : Outcome
+  pub outcome : LineOutcome
 
-abbrev pub moved : Desk → Outcome → Moved
+abbrev pub moved : Desk → LineOutcome → Moved
 moved d o = record { desk = d; outcome = o }
 
--- the same as the code answers it, the buffers being changed in place
+-- ## The same as the code answers it, the buffers being changed in place
+
 abbrev pub stepped : Session → Outcome → Step
 stepped s o = record { session = s; outcome = o }
+
+abbrev pub outcomeOf : Outcome → LineOutcome
+outcomeOf outcome.Malformed = question
+outcomeOf outcome.Taken = silence
+outcomeOf (outcome.Replied letter r) = replying letter (response r)
+
+abbrev pub leaves : Step → List ℕ → List ℕ → Moved
+leaves r screen stores = moved (desk (r .session) screen stores) (outcomeOf (r .outcome))
 
 -- ## Sessions
 
@@ -82,25 +96,22 @@ abbrev pub nextRow : Session → ℕ → ℕ → ℕ → ℕ → ℕ → Row
 nextRow s left top w h len = record { left = left; top = top; width = w; height = h; start = s .stores; len = len }
 
 -- an `o` was accepted
-abbrev pub afterSetUp : Session → Reply → Session
-afterSetUp s reply.Done = record { console = s .console; sized = s .sized; opened = true; screen = s .screen; stores = s .stores }
-afterSetUp s (reply.Refused n) = s
-afterSetUp s (reply.Ran r) = s
-afterSetUp s (reply.Seen v) = s
-afterSetUp s (reply.Value n) = s
+abbrev pub afterSetUp : Session → Response → Session
+afterSetUp s (acceptedWith vs) = record { console = s .console; sized = s .sized; opened = true; screen = s .screen; stores = s .stores }
+afterSetUp s (refusedWith n) = s
 
 -- ## Lines obeyed
 
 -- "prints ? and does nothing"
 abbrev pub refusedLine : Desk → Moved
-refusedLine d = moved d outcome.Malformed
+refusedLine d = moved d question
 
 abbrev pub unless : Bool → Desk → Moved → Moved
 unless bad d m = cond bad (refusedLine d) m
 
 -- a line is taken and prints nothing
 abbrev pub taken : Desk → Session → Moved
-taken d s = moved (desk s (d .screen) (d .stores)) outcome.Taken
+taken d s = moved (desk s (d .screen) (d .stores)) silence
 
 -- "Limits: .. screen 32,768, stores 16,384"
 abbrev pub mostScreen : ℕ
@@ -119,7 +130,7 @@ putBack n new buffer = new ++ drop n buffer
 
 -- a call was made on the bytes in use: what it left there, and its reply under the line's letter
 unfoldable pub made : Session → ℕ → Answer → Moved
-made s c a = moved (desk (withConsole s (a .state .console)) (a .state .screen) (a .state .stores)) (outcome.Replied c (a .reply))
+made s c a = moved (desk (withConsole s (a .state .console)) (a .state .screen) (a .state .stores)) (replying c (a .reply))
 
 -- the same with the whole buffers
 unfoldable pub restored : Desk → Moved → Moved

@@ -14,8 +14,9 @@ ghost use mathlib.Core.Bool.{false};
 ghost use mathlib.Core.List.{List};
 ghost use Prim.Native.Nat.{ℕ, _+_, _*_, _≤_, _<_};
 ghost use Rattle.model.specs.Setup.{screenBytes};
+ghost use Rattle.model.specs.Replies.{response};
 ghost use Rattle.parser.specs.Lines as line;
-ghost use Rattle.session.specs.Desk.{desk, moved, stepped, withConsole, afterSetUp, obeyed, mostScreen};
+ghost use Rattle.session.specs.Desk.{desk, leaves, stepped, withConsole, afterSetUp, obeyed, mostScreen};
 ghost use Rattle.parser.specs.Lines.{meant};
 ghost use Rattle.session.specs.declared.Outcome.the-variants as outcome;
 
@@ -57,7 +58,7 @@ fn screen_bytes(g: Geometry) -> u64
 // The line `s` with a geometry: taken if its rows keep to the limit, unless there is one already.
 fn sized(session: Session, geometry: Geometry) -> Step
     requires { ⌜ session .opened ≡ false ⌝ }
-    ensures { λ r. ⌜ ((screen stores : List ℕ) → moved (desk (r .session) screen stores) (r .outcome) ≡ obeyed (line.sizing geometry) (desk session screen stores)) ⌝ }
+    ensures { λ r. ⌜ ((screen stores : List ℕ) → leaves r screen stores ≡ obeyed (line.sizing geometry) (desk session screen stores)) ⌝ }
 {
     if session.sized {
         return malformed(session);
@@ -80,7 +81,7 @@ fn sized(session: Session, geometry: Geometry) -> Step
 fn added(session: Session, row: Row) -> Step
     requires { ⌜ session .opened ≡ false ⌝ }
     requires { ⌜ row .start ≡ session .stores ⌝ }
-    ensures { λ r. ⌜ ((screen stores : List ℕ) → moved (desk (r .session) screen stores) (r .outcome) ≡ obeyed (line.adding (row .left) (row .top) (row .width) (row .height) (row .len)) (desk session screen stores)) ⌝ }
+    ensures { λ r. ⌜ ((screen stores : List ℕ) → leaves r screen stores ≡ obeyed (line.adding (row .left) (row .top) (row .width) (row .height) (row .len)) (desk session screen stores)) ⌝ }
 {
     let k = session.console.count as usize;
     if k >= MOST_PANES {
@@ -102,11 +103,12 @@ fn added(session: Session, row: Row) -> Step
 
 // The session with set-up's answer: opened if it was accepted.
 fn opened(session: Session, answered: answers::Answered) -> Step
-    ensures { λ r. ⌜ r ≡ stepped (withConsole (afterSetUp session (answered .reply)) (answered .console)) (outcome.Replied 111 (answered .reply)) ⌝ }
+    ensures { λ r. ⌜ r ≡ stepped (withConsole (afterSetUp session (response (answered .reply))) (answered .console)) (outcome.Replied 111 (answered .reply)) ⌝ }
 {
     let reply = answered.reply;
     match reply {
-        Reply::Done => replied(
+        Reply::Refused(_) => replied(session, b'o', answered),
+        _ => replied(
             Session {
                 opened: true,
                 ..session
@@ -114,14 +116,13 @@ fn opened(session: Session, answered: answers::Answered) -> Step
             b'o',
             answered,
         ),
-        _ => replied(session, b'o', answered),
     }
 }
 
 // The line `o`: set-up of what the lines before it said.
 fn open(screen: &[u8], stores: &[u8], session: Session) -> Step
     requires { ⌜ session .opened ≡ false ⌝ }
-    ensures { λ r. ⌜ moved (desk (r .session) (now (screen .entry)) (now (stores .entry))) (r .outcome) ≡ obeyed line.opening (desk session (now (screen .entry)) (now (stores .entry))) ⌝ }
+    ensures { λ r. ⌜ leaves r (now (screen .entry)) (now (stores .entry)) ≡ obeyed line.opening (desk session (now (screen .entry)) (now (stores .entry))) ⌝ }
 {
     if !session.sized {
         return malformed(session);
@@ -137,7 +138,7 @@ fn open(screen: &[u8], stores: &[u8], session: Session) -> Step
 // A line before an accepted `o`: a call prints ?.
 pub fn obey(said: Line, screen: &[u8], stores: &[u8], session: Session) -> Step
     requires { ⌜ session .opened ≡ false ⌝ }
-    ensures { λ r. ⌜ ((buffer : List ℕ) → moved (desk (r .session) (now (screen .entry)) (now (stores .entry))) (r .outcome) ≡ obeyed (meant said buffer) (desk session (now (screen .entry)) (now (stores .entry)))) ⌝ }
+    ensures { λ r. ⌜ ((buffer : List ℕ) → leaves r (now (screen .entry)) (now (stores .entry)) ≡ obeyed (meant said buffer) (desk session (now (screen .entry)) (now (stores .entry)))) ⌝ }
 {
     match said {
         Line::Screen(geometry) => sized(session, geometry),

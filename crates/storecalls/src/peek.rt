@@ -9,6 +9,8 @@ use model::Reply;
 use model::Row;
 use tables::refuse;
 ghost use mathlib.Core.Path.{_≡_};
+ghost use Prim.Native.Nat.{_<_};
+ghost use lib.ListN.{length, getD};
 ghost use Rattle.model.specs.Calls.{exec, on, ownRefusal};
 ghost use Rattle.model.specs.Calls as calls;
 ghost use Rattle.model.specs.declared.Pane.{Pane};
@@ -21,11 +23,20 @@ fn peek_refusal(row: Row, address: u32) -> u8
     refuse(row.len <= address, REFUSE_END, 0)
 }
 
-// Answers the byte at an address of the store of the pane with a number; changes nothing; refused 2 past the store's end.
-pub fn peek(screen: &[u8], stores: &[u8], console: Console, number: u32, address: u32) -> Answered
-    ensures { λ r. ⌜ answer (r .console) (r .reply) (now (screen .entry)) (now (stores .entry)) ≡ exec (state console (now (screen .entry)) (now (stores .entry))) (on number (calls.peek address)) ⌝ }
+// The byte at an address of a store.
+fn byte_at(store: &[u8], address: usize) -> u8
+    requires { ⌜ address < length (now store) ⌝ }
+    ensures { λ r. ⌜ r ≡ getD (now (store .entry)) address 0 ⌝ }
 {
-    let first = call_refusal(screen, stores, console, number);
+    store[address]
+}
+
+// Answers the byte at an address of the store of the pane with a number; changes nothing; refused 2 past the store's end.
+// The pane's own part of the stores is lent on, and nothing else of it.
+pub fn peek(screen: &[u8], stores: &[u8], console: Console, number: u32, address: u32) -> Answered
+    ensures { λ r. ⌜ answer r (now (screen .entry)) (now (stores .entry)) ≡ exec (state console (now (screen .entry)) (now (stores .entry))) (on number (calls.peek address)) ⌝ }
+{
+    let first = call_refusal(screen.len(), stores.len(), console, number);
     if first != 0 {
         return refused(console, first);
     }
@@ -35,8 +46,9 @@ pub fn peek(screen: &[u8], stores: &[u8], console: Console, number: u32, address
     if own != 0 {
         return refused(console, own);
     }
-    let at = row.start as usize + address as usize;
-    let value = stores[at];
+    let start = row.start as usize;
+    let end = start + row.len as usize;
+    let value = byte_at(&stores[start..end], address as usize);
     Answered {
         console,
         reply: Reply::Value(value),

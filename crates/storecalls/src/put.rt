@@ -48,9 +48,9 @@ pub fn put(
     address: u32,
     bytes: &[u8],
 ) -> Answered
-    ensures { λ r. ⌜ answer (r .console) (r .reply) (now (screen .entry)) (now (stores .exit)) ≡ exec (state console (now (screen .entry)) (now (stores .entry))) (on number (calls.put address (now (bytes .entry)))) ⌝ }
+    ensures { λ r. ⌜ answer r (now (screen .entry)) (now (stores .exit)) ≡ exec (state console (now (screen .entry)) (now (stores .entry))) (on number (calls.put address (now (bytes .entry)))) ⌝ }
 {
-    let first = call_refusal(screen, stores, console, number);
+    let first = call_refusal(screen.len(), stores.len(), console, number);
     if first != 0 {
         return refused(console, first);
     }

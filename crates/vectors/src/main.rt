@@ -25,7 +25,7 @@ fn as_expected(k: usize) -> bool
     let mut expected = io::large_buffer();
     let due = read_file(k + 1, &mut expected);
     let mut replies = script::room();
-    let written = script::answer(&script[..read], &mut replies);
+    let written = script::answer(parser::Language::Panes, &script[..read], &mut replies);
     check::same(&replies[..written], &expected[..due])
 }
 

@@ -35,6 +35,18 @@ enum-known-said-5 c = search needs
 pixel-requires : tie.Need-pixel-requires
 pixel-requires c κs = search needs
 
+enum-known-said-6 : tie.Need-enum-known-said-6
+enum-known-said-6 c = search needs
+
+peek-requires : tie.Need-peek-requires
+peek-requires c κs = search needs
+
+enum-known-said-7 : tie.Need-enum-known-said-7
+enum-known-said-7 c = search needs
+
+clear-requires : tie.Need-clear-requires
+clear-requires c κs = search needs
+
 malformed-requires : tie.Need-malformed-requires
 malformed-requires c κs = search needs
 
@@ -93,10 +105,32 @@ returns-5 c rows bytes e =
     let line = c .before .before .before .before in
     rw (line .said5 .given .1) (asking-made _ (line .before .before .before .before .before .pre) rows bytes e _ _ (c .pixel .ensures))
 
+same-length-11 : tie.Need-same-length-11
+same-length-11 c = search needs
+
+same-length-12 : tie.Need-same-length-12
+same-length-12 c = search needs
+
 returns-6 : tie.Need-returns-6
 returns-6 c rows bytes e =
+    let line = c .before .before .before .before in
+    rw (line .said6 .given .1) (asking-made _ (line .before .before .before .before .before .pre) rows bytes e _ _ (c .peek .ensures))
+
+same-length-13 : tie.Need-same-length-13
+same-length-13 c = search needs
+
+same-length-14 : tie.Need-same-length-14
+same-length-14 c = search needs
+
+returns-7 : tie.Need-returns-7
+returns-7 c rows bytes e =
+    let line = c .before .before .before .before in
+    rw (line .said7 .given .1) (asking-made _ (line .before .before .before .before .before .pre) rows bytes e _ _ (c .clear .ensures))
+
+returns-8 : tie.Need-returns-8
+returns-8 c rows bytes e =
     let start = c .before .before .before .before .before in
-    obeyed-other _ (start .pre) rows bytes e (start .args .said) (c .before .match .keys6) (now (start .args .buffer)) (c .malformed .ensures)
+    obeyed-other _ (start .pre) rows bytes e (start .args .said) (c .before .match .keys8) (now (start .args .buffer)) (c .malformed .ensures)
 
 pub by-kind-spec : {M : Type 1} → statement M
 by-kind-spec =
@@ -112,6 +146,10 @@ by-kind-spec =
     look-requires
     enum-known-said-5
     pixel-requires
+    enum-known-said-6
+    peek-requires
+    enum-known-said-7
+    clear-requires
     malformed-requires
     same-length
     same-length-2
@@ -128,4 +166,10 @@ by-kind-spec =
     same-length-9
     same-length-10
     returns-5
-    returns-6)
+    same-length-11
+    same-length-12
+    returns-6
+    same-length-13
+    same-length-14
+    returns-7
+    returns-8)

@@ -13,32 +13,20 @@ call-refusal-requires c κs = search needs
 refused-requires : tie.Need-refused-requires
 refused-requires c κs = search needs
 
-same-length : tie.Need-same-length
-same-length c = search needs
-
-same-length-2 : tie.Need-same-length-2
-same-length-2 c = search needs
-
 returns : tie.Need-returns
 returns c = exec-refused _ _ _ _ _ (c .refused .ensures) (c .before .before .call-refusal .ensures) (c .before .if1 .taken)
 
 row-at-requires : tie.Need-row-at-requires
-row-at-requires c κs = admitted _ _ (c .before .call-refusal .ensures) (c .if1 .left) .index
+row-at-requires c κs = admitted _ _ _ _ (c .before .call-refusal .ensures) (c .if1 .left) .index
 
 record-at-requires : tie.Need-record-at-requires
-record-at-requires c κs = admitted _ _ (c .before .before .call-refusal .ensures) (c .before .if1 .left) .index
+record-at-requires c κs = admitted _ _ _ _ (c .before .before .call-refusal .ensures) (c .before .if1 .left) .index
 
 run-refusal-requires : tie.Need-run-refusal-requires
 run-refusal-requires c κs = search needs
 
 refused-requires-2 : tie.Need-refused-requires-2
 refused-requires-2 c κs = search needs
-
-same-length-3 : tie.Need-same-length-3
-same-length-3 c = search needs
-
-same-length-4 : tie.Need-same-length-4
-same-length-4 c = search needs
 
 returns-2 : tie.Need-returns-2
 unfolding rowOf recordOf
@@ -69,26 +57,26 @@ unfolding rowOf
 part-run-end c =
     let r = c .before .before .before .before .before .before in
     let d = r .before in
-    room _ _ (d .before .call-refusal .ensures) (d .if1 .left) _ (r .row-at .ensures)
+    room _ _ _ _ (d .before .call-refusal .ensures) (d .if1 .left) _ (r .row-at .ensures)
 
 run-requires : tie.Need-run-requires
-unfolding rowOf recordOf part
+unfolding part
 run-requires c κs =
     let p = c .before .before .before .before .before .before in
     let r = p .before in
     let d = r .before in
-    sound _ _ 0 (d .before .call-refusal .ensures) (d .if1 .left) _ (r .row-at .ensures) _ (p .record-at .ensures)
+    sound _ _ _ _ (d .before .call-refusal .ensures) (d .if1 .left) _ (r .row-at .ensures) _ (p .record-at .ensures)
 
 with-record-requires : tie.Need-with-record-requires
 with-record-requires c κs =
     let d = c .before .before .before .before .before .before .before .before .before .before .before .before .before in
-    admitted _ _ (d .before .call-refusal .ensures) (d .if1 .left) .index
+    admitted _ _ _ _ (d .before .call-refusal .ensures) (d .if1 .left) .index
 
-same-length-5 : tie.Need-same-length-5
-same-length-5 c = search needs
+same-length : tie.Need-same-length
+same-length c = search needs
 
-same-length-6 : tie.Need-same-length-6
-same-length-6 c = search needs
+same-length-2 : tie.Need-same-length-2
+same-length-2 c = search needs
 
 returns-3 : tie.Need-returns-3
 unfolding rowOf recordOf part inPart
@@ -108,15 +96,11 @@ run-spec =
     (tie.spec
     call-refusal-requires
     refused-requires
-    same-length
-    same-length-2
     returns
     row-at-requires
     record-at-requires
     run-refusal-requires
     refused-requires-2
-    same-length-3
-    same-length-4
     returns-2
     cast-start
     cast-end
@@ -126,6 +110,6 @@ run-spec =
     part-run-end
     run-requires
     with-record-requires
-    same-length-5
-    same-length-6
+    same-length
+    same-length-2
     returns-3)

@@ -30,6 +30,9 @@ look-requires c κs = search needs
 pixel-requires : tie.Need-pixel-requires
 pixel-requires c κs = search needs
 
+by-further-letter-requires : tie.Need-by-further-letter-requires
+by-further-letter-requires c κs = search needs
+
 returns : tie.Need-returns
 unfolding byLetter
 returns c = rw (c .before .match .keys1) (c .screen .ensures (now (c .before .before .before .before .args .buffer)))
@@ -68,16 +71,17 @@ returns-8 c = rw (c .before .match .keys8) (c .pixel .ensures (now (c .before .b
 returns-9 : tie.Need-returns-9
 unfolding byLetter
 returns-9 c =
+    let rest = c .before .match .rest in
     rw (
-      ne-eqb _ 115 (c .match .rest .0 .0 .0 .0 .0 .0 .0 .1),
-      ne-eqb _ 112 (c .match .rest .0 .0 .0 .0 .0 .0 .1),
-      ne-eqb _ 111 (c .match .rest .0 .0 .0 .0 .0 .1),
-      ne-eqb _ 119 (c .match .rest .0 .0 .0 .0 .1),
-      ne-eqb _ 103 (c .match .rest .0 .0 .0 .1),
-      ne-eqb _ 114 (c .match .rest .0 .0 .1),
-      ne-eqb _ 108 (c .match .rest .0 .1),
-      ne-eqb _ 120 (c .match .rest .1),
-    )
+      ne-eqb _ 115 (rest .0 .0 .0 .0 .0 .0 .0 .1),
+      ne-eqb _ 112 (rest .0 .0 .0 .0 .0 .0 .1),
+      ne-eqb _ 111 (rest .0 .0 .0 .0 .0 .1),
+      ne-eqb _ 119 (rest .0 .0 .0 .0 .1),
+      ne-eqb _ 103 (rest .0 .0 .0 .1),
+      ne-eqb _ 114 (rest .0 .0 .1),
+      ne-eqb _ 108 (rest .0 .1),
+      ne-eqb _ 120 (rest .1),
+    ) (c .by-further-letter .ensures (now (c .before .before .before .before .args .buffer)))
 
 pub by-letter-spec : {M : Type 1} → statement M
 by-letter-spec =
@@ -91,6 +95,7 @@ by-letter-spec =
     run-requires
     look-requires
     pixel-requires
+    by-further-letter-requires
     returns
     returns-2
     returns-3

@@ -12,7 +12,7 @@ first-end-requires c κs = search needs
 returns : tie.Need-returns
 returns c =
     let line = now (c .before .before .before .before .args .line) in
-    sym (lineOf-other line (λ e. c .if1 .taken (c .before .first-end .ensures .1 ∙ e)))
+    sym (lineOf-other _ line (λ e. c .if1 .taken (c .before .first-end .ensures .1 ∙ e)))
 
 shared-slice-read-by-letter : tie.Need-shared-slice-read-by-letter
 shared-slice-read-by-letter c = search needs
@@ -27,7 +27,7 @@ returns-2 : tie.Need-returns-2
 returns-2 c =
     let f = c .before .before .before .before .before in
     let line = now (f .before .before .before .before .args .line) in
-    c .before .before .by-letter .ensures ∙ sym (lineOf-letter line (sym (f .before .first-end .ensures .1) ∙ f .if1 .left))
+    c .before .before .by-letter .ensures ∙ sym (lineOf-letter _ line (sym (f .before .first-end .ensures .1) ∙ f .if1 .left))
 
 pub parse-spec : {M : Type 1} → statement M
 parse-spec =

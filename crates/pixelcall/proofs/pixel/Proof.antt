@@ -1,7 +1,10 @@
 -- Pixel answers the value of a pixel of the pane's rectangle and keeps everything.
 use mathlib.Core.Path.{refl, ap}
-use Rattle.model.specs.Calls.{rowOf, recordOf, onPane}
+use mathlib.Core.List.{[], _∷_}
+use Prim.Native.Nat.{ℕ}
 use Rattle.model.specs.declared.Reply.the-variants as reply
+use Rattle.model.specs.Replies.{acceptedWith, natural}
+use Rattle.model.specs.Calls.{rowOf, recordOf, onPane}
 use Rattle.bitmaps.proofs.DepthLaws.{isDepth-known}
 use Rattle.answers.proofs.CallLaws.{exec-refused, exec-refused-own, own-by-row, exec-kept}
 use Rattle.answers.proofs.AcceptedLaws.{admitted}
@@ -20,7 +23,7 @@ returns : tie.Need-returns
 returns c = exec-refused _ _ _ _ _ (c .refused .ensures) (c .before .before .call-refusal .ensures) (c .before .if1 .taken)
 
 row-at-requires : tie.Need-row-at-requires
-row-at-requires c κs = admitted _ _ (c .before .call-refusal .ensures) (c .if1 .left) .index
+row-at-requires c κs = admitted _ _ _ _ (c .before .call-refusal .ensures) (c .if1 .left) .index
 
 pixel-refusal-requires : tie.Need-pixel-refusal-requires
 pixel-refusal-requires c κs = search needs
@@ -39,7 +42,7 @@ returns-2 c =
 pane-surface-requires : tie.Need-pane-surface-requires
 pane-surface-requires c κs =
     let d = c .before .before .before in
-    let p = admitted _ _ (d .before .call-refusal .ensures) (d .if1 .left) .placed in
+    let p = admitted _ _ _ _ (d .before .call-refusal .ensures) (d .if1 .left) .placed in
     (p .width, isDepth-known _ (p .depth) .most)
 
 pixel-requires : tie.Need-pixel-requires
@@ -48,7 +51,7 @@ pixel-requires c κs =
     let w = c .before in
     let d = w .before .before .before in
     rw (c .pane-surface .ensures)
-    (pixel-drawable _ _ (admitted _ _ (d .before .call-refusal .ensures) (d .if1 .left)) _ (w .before .before .row-at .ensures) _ _ (w .before .pixel-refusal .ensures) (w .if2 .left))
+    (pixel-drawable _ _ _ _ (admitted _ _ _ _ (d .before .call-refusal .ensures) (d .if1 .left)) _ (w .before .before .row-at .ensures) _ _ (w .before .pixel-refusal .ensures) (w .if2 .left))
 
 returns-3 : tie.Need-returns-3
 unfolding rowOf recordOf onPane
@@ -56,8 +59,8 @@ returns-3 c =
     let w = c .before .before in
     let d = w .before .before .before in
     let e = w .before .before .row-at .ensures in
-    exec-kept _ _ _ (d .before .call-refusal .ensures) (d .if1 .left) (own-by-row _ _ e (w .before .pixel-refusal .ensures)) (w .if2 .left) _ refl _
-    (ap reply.Value (rw (c .before .pane-surface .ensures, e) at (c .pixel .ensures)))
+    exec-kept _ _ _ (d .before .call-refusal .ensures) (d .if1 .left) (own-by-row _ _ e (w .before .pixel-refusal .ensures)) (w .if2 .left) _ refl (reply.Value (c .pixel .result))
+    (ap (λ (n : ℕ). acceptedWith (natural n ∷ [])) (rw (c .before .pane-surface .ensures, e) at (c .pixel .ensures)))
 
 pub pixel-spec : {M : Type 1} → statement M
 pixel-spec =

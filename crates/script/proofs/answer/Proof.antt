@@ -20,8 +20,8 @@ returns : tie.Need-returns
 returns c =
     let a = c .before .before .before .before .before .before .before .args in
     let wrote = c .before .before .malformed .ensures in
-    let bytes = wrote .bytes ∙ ap (take (length (now (a .out)))) (sym (answered-long (now (a .script)) (c .before .before .before .before .if1 .taken))) in
-    (counts _ _ (omega (arith, wrote .fits)), (bytes, λ h. bytes ∙ answered-whole (now (a .script)) (length (now (a .out))) h))
+    let bytes = wrote .bytes ∙ ap (take (length (now (a .out)))) (sym (answered-long (a .language) (now (a .script)) (c .before .before .before .before .if1 .taken))) in
+    (counts _ _ (omega (arith, wrote .fits)), (bytes, λ h. bytes ∙ answered-whole (a .language) (now (a .script)) (length (now (a .out))) h))
 
 screen-room-requires : tie.Need-screen-room-requires
 screen-room-requires c κs = search needs
@@ -51,10 +51,10 @@ returns-2 : tie.Need-returns-2
 returns-2 c =
     let room = c .before .before .before .before .before .before .before .before .before .before .before in
     let a = room .before .before .before .before .before .args in
-    let e = answered-lines (now (a .script)) (room .before .before .if1 .left) (room .before .screen-room .ensures) (room .stores-room .ensures) in
+    let e = answered-lines (a .language) (now (a .script)) (room .before .before .if1 .left) (room .before .screen-room .ensures) (room .stores-room .ensures) in
     let wrote = c .before .before .before .before .before .lines .ensures in
     let bytes = wrote .1 ∙ ap (take (length (now (a .out)))) e in
-    (wrote .0, (bytes, λ h. bytes ∙ answered-whole (now (a .script)) (length (now (a .out))) h))
+    (wrote .0, (bytes, λ h. bytes ∙ answered-whole (a .language) (now (a .script)) (length (now (a .out))) h))
 
 pub answer-spec : {M : Type 1} → statement M
 answer-spec =

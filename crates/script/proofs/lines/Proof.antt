@@ -10,18 +10,18 @@ use Rattle.script.proofs.lines.Statement.{statement}
 use Rattle.script.proofs.lines.Tie as tie
 
 abbrev Inv-loop : tie.InvT-loop
-Inv-loop script screen₀ stores₀ scratch₀ out₀ session₀ written₀ from₀ screen stores scratch out session written from =
+Inv-loop language script screen₀ stores₀ scratch₀ out₀ session₀ written₀ from₀ screen stores scratch out session written from =
     (length screen ≡ length screen₀) × (length stores ≡ length stores₀) × (length scratch ≡ length scratch₀) × (length out ≡ length out₀)
-    × Along script screen₀ stores₀ out₀ session screen stores out written from
+    × Along language script screen₀ stores₀ out₀ session screen stores out written from
 
 abbrev μ-loop : tie.MeasureT-loop
-μ-loop script screen₀ stores₀ scratch₀ out₀ session₀ written₀ from₀ screen stores scratch out session written from = length script - from
+μ-loop language script screen₀ stores₀ scratch₀ out₀ session₀ written₀ from₀ screen stores scratch out session written from = length script - from
 
 begun-requires : tie.Need-begun-requires Inv-loop μ-loop
 begun-requires c κs = search needs
 
 loop-holds : tie.Need-loop-holds Inv-loop μ-loop
-loop-holds c = (search needs, search needs, search needs, search needs, along-none _ _ _ _ (c .begun .ensures))
+loop-holds c = (search needs, search needs, search needs, search needs, along-none _ _ _ _ _ (c .begun .ensures))
 
 line-end-requires : tie.Need-line-end-requires Inv-loop μ-loop
 line-end-requires c κs = search needs
@@ -57,7 +57,7 @@ loop-again c =
       search needs,
       search needs,
       search needs,
-      along-next _ _ _ _ (l .loop .inv .4) (l .loop .inv .3) (line .before .loop-test .taken) (line .line-end .ensures .1) (step .one-line .ensures) (print .print .ensures),
+      along-next _ _ _ _ _ (l .loop .inv .4) (l .loop .inv .3) (line .before .loop-test .taken) (line .line-end .ensures .1) (step .one-line .ensures) (print .print .ensures),
     )
 
 same-length : tie.Need-same-length Inv-loop μ-loop
@@ -75,7 +75,7 @@ same-length-4 c = search needs
 returns : tie.Need-returns Inv-loop μ-loop
 returns c =
     let i = c .before .loop .inv in
-    (counts _ _ (omega (arith, i .3, i .4 .wrote .fits)), along-all _ _ _ _ (i .4) (c .loop-test .left))
+    (counts _ _ (omega (arith, i .3, i .4 .wrote .fits)), along-all _ _ _ _ _ (i .4) (c .loop-test .left))
 
 pub lines-spec : {M : Type 1} → statement M
 lines-spec =

@@ -1,10 +1,11 @@
--- `Done` opens, and no other reply does.
+-- Acceptance opens, and a refusal does not.
 use mathlib.Core.Path.{_≡_, refl, sym, ap, _∙_}
 use mathlib.Core.List.{[], _∷_}
 use denote.Enum.Declared.{tagOf}
 use types.Run.{OneOf, miss}
 use Rattle.model.specs.declared.Reply.{Reply}
 use Rattle.model.specs.declared.Reply.the-variants as reply
+use Rattle.model.specs.Replies.{response}
 use Rattle.model.proofs.Reply.{the-type}
 use Rattle.session.specs.declared.Session.{Session}
 use Rattle.session.specs.declared.Outcome.the-variants as outcome
@@ -13,36 +14,27 @@ use borrow.Author.Needs.{needs}
 use Rattle.setting.proofs.opened.Statement.{statement}
 use Rattle.setting.proofs.opened.Tie as tie
 
-enum-told : tie.Need-enum-told
-enum-told c = search needs
-
-replied-requires : tie.Need-replied-requires
-replied-requires c κs = search needs
-
-replied-requires-2 : tie.Need-replied-requires-2
-replied-requires-2 c κs = search needs
-
 returns : tie.Need-returns
 returns c =
-    let a = c .before .before .before .before .args in
+    let a = c .before .before .before .args in
     c .replied .ensures
-    ∙ ap (λ (r : Reply). stepped (withConsole (afterSetUp (a .session) r) (a .answered .console)) (outcome.Replied 111 (a .answered .reply)))
-    (sym (c .before .before .enum-told .given .1))
+    ∙ ap (λ (r : Reply). stepped (withConsole (afterSetUp (a .session) (response r)) (a .answered .console)) (outcome.Replied 111 (a .answered .reply)))
+    (sym (c .before .enum-told .given .1))
 
--- a reply other than `Done` opens nothing
-not-opened : (s : Session) (a : Reply) → OneOf (0 ∷ 2 ∷ 3 ∷ 4 ∷ []) (tagOf the-type a) → s ≡ afterSetUp s a
-not-opened s (reply.Refused n) h = refl
-not-opened s reply.Done h = absurd (miss (0 ∷ 2 ∷ 3 ∷ 4 ∷ []) 1 tt h)
-not-opened s (reply.Ran r) h = refl
-not-opened s (reply.Seen v) h = refl
-not-opened s (reply.Value n) h = refl
+-- a reply that is no refusal opens
+accepted : (s t : Session) (a : Reply) → OneOf (1 ∷ 2 ∷ 3 ∷ 4 ∷ []) (tagOf the-type a) → t ≡ afterSetUp s (response reply.Done) → t ≡ afterSetUp s (response a)
+accepted s t (reply.Refused n) h e = absurd (miss (1 ∷ 2 ∷ 3 ∷ 4 ∷ []) 0 tt h)
+accepted s t reply.Done h e = e
+accepted s t (reply.Ran r) h e = e
+accepted s t (reply.Seen v) h e = e
+accepted s t (reply.Value n) h e = e
 
 returns-2 : tie.Need-returns-2
 returns-2 c =
-    let a = c .before .before .args in
+    let a = c .before .before .before .args in
     c .replied2 .ensures
     ∙ ap (λ (t : Session). stepped (withConsole t (a .answered .console)) (outcome.Replied 111 (a .answered .reply)))
-    (not-opened (a .session) (a .answered .reply) (c .before .match .keys2))
+    (accepted (a .session) _ (a .answered .reply) (c .before .before .match .keys2) refl)
 
 pub opened-spec : {M : Type 1} → statement M
-opened-spec = tie.close (tie.spec enum-told replied-requires replied-requires-2 returns returns-2)
+opened-spec = tie.close (tie.spec (λ c. search needs) (λ c κs. search needs) (λ c κs. search needs) returns returns-2)

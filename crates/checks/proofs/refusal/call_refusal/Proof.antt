@@ -1,10 +1,9 @@
 -- Set-up's refusals first; once none applies, there are at most 8 rows, so that a pane below their number has a row and a record.
--- The buffers count by their lengths alone.
 use mathlib.Core.Path.{sym, ap, _∙_}
 use mathlib.Core.Bool.{Bool, cond}
 use borrow.Author.Tests.{le-leb, lt-leb, eq-eqb, ne-eqb}
 use Rattle.model.specs.Numbers.{refuseRecord}
-use Rattle.model.specs.Calls.{setupRefusal, rowOf, recordOf, callRefusal}
+use Rattle.model.specs.Calls.{callChecks}
 use Rattle.model.proofs.SetupLaws.{checks-say}
 use borrow.Author.Needs.{needs}
 use Rattle.checks.proofs.refusal.call_refusal.Statement.{statement}
@@ -14,11 +13,11 @@ setup-refusal-requires : tie.Need-setup-refusal-requires
 setup-refusal-requires c κs = search needs
 
 returns : tie.Need-returns
-unfolding callRefusal setupRefusal
+unfolding callChecks
 returns c = simp (sym (c .before .setup-refusal .ensures), ne-eqb _ 0 (c .if1 .taken))
 
 returns-2 : tie.Need-returns-2
-unfolding callRefusal setupRefusal
+unfolding callChecks
 returns-2 c = simp (sym (c .before .before .setup-refusal .ensures), eq-eqb _ 0 (c .before .if1 .left), le-leb _ _ (c .if2 .taken))
 
 mul-row : tie.Need-mul-row
@@ -40,7 +39,7 @@ refuse-requires : tie.Need-refuse-requires
 refuse-requires c κs = search needs
 
 returns-3 : tie.Need-returns-3
-unfolding callRefusal setupRefusal rowOf recordOf
+unfolding callChecks
 returns-3 c =
     let d = c .before .before .before .before .before in
     simp (sym (d .before .before .setup-refusal .ensures), eq-eqb _ 0 (d .before .if1 .left), lt-leb _ _ (d .if2 .left))

@@ -15,7 +15,7 @@ use Rattle.recordcalls.proofs.clear.clear.Tie as tie
 
 -- clear has no refusal of its own: a call that is not refused leaves a fresh record
 cleared : (s : State) (number : ℕ) {m : ℕ} → m ≡ callRefusal s number → m ≡ 0 → (b : Answered) (p : Pane) → b ≡ replaced (s .console) number p reply.Done → p ≡ fresh
-    → answer (b .console) (b .reply) (s .screen) (s .stores) ≡ exec s (on number clear)
+    → answer b (s .screen) (s .stores) ≡ exec s (on number clear)
 unfolding ownRefusal onPane
 cleared s number f z b p h i = exec-record s number clear f z refl refl _ _ refl b p h i
 
@@ -34,7 +34,7 @@ fresh-requires c κs = search needs
 with-record-requires : tie.Need-with-record-requires
 with-record-requires c κs =
     let d = c .before in
-    let i = admitted _ _ (d .before .call-refusal .ensures) (d .if1 .left) .index in
+    let i = admitted _ _ _ _ (d .before .call-refusal .ensures) (d .if1 .left) .index in
     search needs
 
 returns-2 : tie.Need-returns-2

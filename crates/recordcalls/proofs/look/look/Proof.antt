@@ -17,7 +17,7 @@ returns : tie.Need-returns
 returns c = exec-refused _ _ _ _ _ (c .refused .ensures) (c .before .before .call-refusal .ensures) (c .before .if1 .taken)
 
 record-at-requires : tie.Need-record-at-requires
-record-at-requires c κs = admitted _ _ (c .before .call-refusal .ensures) (c .if1 .left) .index
+record-at-requires c κs = admitted _ _ _ _ (c .before .call-refusal .ensures) (c .if1 .left) .index
 
 shown-requires : tie.Need-shown-requires
 shown-requires c κs = search needs
@@ -26,7 +26,7 @@ returns-2 : tie.Need-returns-2
 unfolding recordOf ownRefusal onPane
 returns-2 c =
     let d = c .before .before in
-    exec-kept _ _ _ (d .before .call-refusal .ensures) (d .if1 .left) refl refl _ refl _ (c .shown .ensures ∙ ap shown (c .before .record-at .ensures))
+    exec-kept _ _ _ (d .before .call-refusal .ensures) (d .if1 .left) refl refl _ refl (c .shown .result) (c .shown .ensures ∙ ap shown (c .before .record-at .ensures))
 
 pub look-spec : {M : Type 1} → statement M
 look-spec =

@@ -17,7 +17,7 @@ returns : tie.Need-returns
 returns c = exec-refused _ _ _ _ _ (c .refused .ensures) (c .before .before .call-refusal .ensures) (c .before .if1 .taken)
 
 row-at-requires : tie.Need-row-at-requires
-row-at-requires c κs = admitted _ _ (c .before .call-refusal .ensures) (c .if1 .left) .index
+row-at-requires c κs = admitted _ _ _ _ (c .before .call-refusal .ensures) (c .if1 .left) .index
 
 start-refusal-requires : tie.Need-start-refusal-requires
 start-refusal-requires c κs = search needs
@@ -36,7 +36,7 @@ returns-2 c =
 record-at-requires : tie.Need-record-at-requires
 record-at-requires c κs =
     let d = c .before .before .before in
-    admitted _ _ (d .before .call-refusal .ensures) (d .if1 .left) .index
+    admitted _ _ _ _ (d .before .call-refusal .ensures) (d .if1 .left) .index
 
 started-requires : tie.Need-started-requires
 started-requires c κs = search needs
@@ -44,7 +44,7 @@ started-requires c κs = search needs
 with-record-requires : tie.Need-with-record-requires
 with-record-requires c κs =
     let d = c .before .before .before .before .before in
-    let i = admitted _ _ (d .before .call-refusal .ensures) (d .if1 .left) .index in
+    let i = admitted _ _ _ _ (d .before .call-refusal .ensures) (d .if1 .left) .index in
     search needs
 
 returns-3 : tie.Need-returns-3

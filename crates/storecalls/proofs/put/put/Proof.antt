@@ -16,23 +16,17 @@ call-refusal-requires c κs = search needs
 refused-requires : tie.Need-refused-requires
 refused-requires c κs = search needs
 
-same-length : tie.Need-same-length
-same-length c = search needs
-
 returns : tie.Need-returns
 returns c = exec-refused _ _ _ _ _ (c .refused .ensures) (c .before .before .call-refusal .ensures) (c .before .if1 .taken)
 
 row-at-requires : tie.Need-row-at-requires
-row-at-requires c κs = admitted _ _ (c .before .call-refusal .ensures) (c .if1 .left) .index
+row-at-requires c κs = admitted _ _ _ _ (c .before .call-refusal .ensures) (c .if1 .left) .index
 
 put-refusal-requires : tie.Need-put-refusal-requires
 put-refusal-requires c κs = search needs
 
 refused-requires-2 : tie.Need-refused-requires-2
 refused-requires-2 c κs = search needs
-
-same-length-2 : tie.Need-same-length-2
-same-length-2 c = search needs
 
 returns-2 : tie.Need-returns-2
 unfolding rowOf recordOf
@@ -62,7 +56,7 @@ unfolding rowOf
 part-write-end c =
     let r = c .before .before .before .before in
     let d = r .before in
-    room _ _ (d .before .call-refusal .ensures) (d .if1 .left) _ (r .row-at .ensures)
+    room _ _ _ _ (d .before .call-refusal .ensures) (d .if1 .left) _ (r .row-at .ensures)
 
 write-requires : tie.Need-write-requires
 unfolding rowOf
@@ -70,14 +64,14 @@ write-requires c κs =
     let w = c .before .before .before in
     let r = w .before .before in
     let d = r .before in
-    let h = room _ _ (d .before .call-refusal .ensures) (d .if1 .left) _ (r .row-at .ensures) in
+    let h = room _ _ _ _ (d .before .call-refusal .ensures) (d .if1 .left) _ (r .row-at .ensures) in
     let l = put-room _ _ _ (w .before .put-refusal .ensures) (w .if2 .left) in
-    let a = d .before .before .before .before .before .before .args in
+    let a = d .before .before .before .before .before .args in
     let row = r .row-at .result in
     omega (arith, lent-length (now (a .stores)) (row .start) (row .len) h)
 
-same-length-3 : tie.Need-same-length-3
-same-length-3 c = search needs
+same-length : tie.Need-same-length
+same-length c = search needs
 
 returns-3 : tie.Need-returns-3
 unfolding rowOf part inPart
@@ -93,12 +87,10 @@ put-spec =
     (tie.spec
     call-refusal-requires
     refused-requires
-    same-length
     returns
     row-at-requires
     put-refusal-requires
     refused-requires-2
-    same-length-2
     returns-2
     cast-start
     cast-end
@@ -107,5 +99,5 @@ put-spec =
     part-write-start
     part-write-end
     write-requires
-    same-length-3
+    same-length
     returns-3)
