@@ -1,7 +1,8 @@
 //! The script program: lines in, replies out.
 
 use crate::calls;
-use crate::setup::{set_up, Console, Geometry, Row};
+use crate::setup::{set_up, Console};
+use crate::table::{Geometry, Row};
 use crate::Refusal;
 
 /// "Limits: script 8,192 bytes, screen 32,768, stores 16,384."

@@ -52,7 +52,7 @@ fn spoiled_scripts_are_answered() {
 #[test]
 fn random_words_keep_to_their_pane() {
     let opcodes: Vec<u16> = (0..256)
-        .filter(|opcode| reference::decode::parameter_count(*opcode).is_some())
+        .filter(|opcode| reference::decode::is_known(*opcode))
         .collect();
     let mut numbers = Numbers(99);
     for round in 0..400u32 {

@@ -5,8 +5,8 @@ use super::script;
 use crate::bitmaps::{Bitmap, PANE_ADDRESS};
 use crate::calls::lend;
 use crate::decode::Command;
+use crate::record::RUNNING;
 use crate::script::{decimal, lines_of, Session};
-use crate::setup::RUNNING;
 use crate::step::{step, Outcome};
 use std::collections::BTreeMap;
 
