@@ -106,6 +106,13 @@ impl Plan {
         }
     }
 
+    /// The record is fresh again: no font, and pick mode off. Every list begins
+    /// with a bitmap of its own.
+    pub fn forget(&mut self) {
+        self.byte_mode = None;
+        self.picking = false;
+    }
+
     /// How many words a list may have.
     pub fn words_left(&self) -> usize {
         (self.end.saturating_sub(self.free) / 2) as usize
