@@ -12,6 +12,7 @@ import re
 import subprocess
 import sys
 from collections import namedtuple
+from itertools import zip_longest
 from pathlib import Path
 
 README = Path("README.md")
@@ -26,18 +27,18 @@ wrong = []
 
 
 def compare(kind, where, said, found):
-    """Counts one comparison of a kind; what differs is wrong."""
+    """Counts one comparison of lines; the first that differs is wrong."""
     counts[kind] += 1
-    if said != found:
-        wrong.append(f"{where}: {kind} differ\n    said:  {said}\n    found: {found}")
+    for one, other in zip_longest(said, found):
+        if one != other:
+            wrong.append(f"{where}: {kind}: said '{one}', found '{other}'")
+            return
 
 
 def compare_replies(where, said, found):
     """Compares replies one by one."""
-    for one, other in zip(said, found):
-        compare("replies", where, one, other)
-    if len(said) != len(found):
-        wrong.append(f"{where}: {len(said)} replies said, {len(found)} found")
+    for one, other in zip_longest(said, found):
+        compare("replies", where, [one], [other])
 
 
 def run(script, program="panes"):
@@ -155,6 +156,12 @@ def puts(stored):
     return lines
 
 
+def compare_bytes(where, said, found):
+    """Compares bytes by address."""
+    said, found = [[f"{place:02x}: {stored[place]:02x}" for place in sorted(stored)] for stored in (said, found)]
+    compare("listings", where, said, found)
+
+
 def bytes_put(script):
     """The bytes that the lines `w` of a script put, by address."""
     stored = {}
@@ -201,7 +208,7 @@ def check_lists():
             compare_replies(where, said, run(script, program))
         elif fence.label == "listing":
             stored = read_listing(where, fence.lines, sizes)
-            compare("listings", where, stored, bytes_put(script))
+            compare_bytes(where, stored, bytes_put(script))
             preamble = preamble or {place: stored[place] for place in stored if place < PREAMBLE_END}
         elif fence.label == "font sheet":
             sheet = read_listing(where, fence.lines, sizes)
@@ -211,7 +218,7 @@ def check_lists():
         elif fence.label == "example":
             check_example(fence, sizes, console, preamble, sheet)
     for where, part in parts:
-        compare("listings", where, part, {place: sheet.get(place) for place in part})
+        compare_bytes(where, part, {place: sheet[place] for place in part if place in sheet})
 
 
 def check_example(fence, sizes, console, preamble, sheet):
