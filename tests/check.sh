@@ -38,6 +38,12 @@ check_folder() { # FOLDER
             check "$script"
         fi
     done
+    for replies in "$1"/*.out; do
+        if [ ! -f "${replies%.out}.in" ]; then
+            echo "no script for $replies"
+            bad=1
+        fi
+    done
     if [ "$checked" -eq "$before" ]; then
         echo "no script: $1"
         bad=1

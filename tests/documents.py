@@ -29,7 +29,7 @@ wrong = []
 def compare(kind, where, said, found):
     """Counts one comparison of lines; the first that differs is wrong."""
     counts[kind] += 1
-    for one, other in zip_longest(said, found):
+    for one, other in zip_longest(said, found, fillvalue="nothing"):
         if one != other:
             wrong.append(f"{where}: {kind}: said '{one}', found '{other}'")
             return
@@ -37,7 +37,7 @@ def compare(kind, where, said, found):
 
 def compare_replies(where, said, found):
     """Compares replies one by one."""
-    for one, other in zip_longest(said, found):
+    for one, other in zip_longest(said, found, fillvalue="nothing"):
         compare("replies", where, [one], [other])
 
 

@@ -51,19 +51,19 @@ fn scripts_reply_as_written() {
         if !has_peek_or_clear(&script) {
             assert_eq!(answer(Language::Calls, &script), replies, "script {name}");
         }
-        assert!(
-            list.contains(&format!("`{name}`")),
-            "{name} is not in the list"
-        );
+        assert!(list.contains(&format!("`{name}`")), "{name} is not listed");
     }
 }
 
 #[test]
 fn scripts_of_calls_reply_as_written() {
-    let scripts = scripts(&folder("tests/calls"));
+    let folder = folder("tests/calls");
+    let list = fs::read_to_string(folder.join("README.md")).unwrap();
+    let scripts = scripts(&folder);
     assert!(scripts.len() >= 4);
     for (name, script, replies) in scripts {
         assert_eq!(answer(Language::Calls, &script), replies, "script {name}");
+        assert!(list.contains(&format!("`{name}`")), "{name} is not listed");
     }
 }
 

@@ -1,9 +1,9 @@
 //! BIT_BLT and BIT_BLT_M.
 
-use super::super::dice::Dice;
 use super::numbers::split;
 use super::{List, Plan};
 use crate::bitmaps::PANE_ADDRESS;
+use crate::generator::dice::Dice;
 use crate::opcodes;
 
 impl Plan {

@@ -1,9 +1,9 @@
 //! The drawing commands, but for copies.
 
-use super::super::data::Spot;
-use super::super::dice::Dice;
 use super::numbers::{near, offset, split};
 use super::{List, Plan};
+use crate::generator::data::Spot;
+use crate::generator::dice::Dice;
 use crate::opcodes;
 
 /// CHAR's opcodes.

@@ -1,12 +1,12 @@
 //! Commands that fault.
 
-use super::super::data::Spot;
-use super::super::dice::Dice;
 use super::drawings::CHARS;
 use super::numbers::{split, PANE_WORDS};
 use super::{List, Plan};
 use crate::bitmaps::PANE_ADDRESS;
 use crate::decode::is_known;
+use crate::generator::data::Spot;
+use crate::generator::dice::Dice;
 use crate::opcodes;
 
 /// Opcodes that the paper leaves out; most of them are the chip's.

@@ -1,7 +1,7 @@
 //! The numbers in a command's words: addresses, coordinates, colours.
 
-use super::super::dice::Dice;
 use crate::bitmaps::PANE_ADDRESS;
+use crate::generator::dice::Dice;
 
 /// Far coordinates.
 pub const FAR: [i64; 7] = [-32768, 32767, -32767, 32766, 16384, -20000, 5000];

@@ -1,9 +1,9 @@
 //! A pane's store and the lists that are written for it.
 
-use super::super::data::{Data, Spot};
-use super::super::dice::Dice;
 use super::numbers::split;
 use super::{Ending, List};
+use crate::generator::data::{Data, Spot};
+use crate::generator::dice::Dice;
 use crate::opcodes;
 
 /// A pane, its store, and what its record is thought to hold.

@@ -1,10 +1,10 @@
 //! The commands that draw nothing: where to draw, how, and what comes next.
 
-use super::super::data::Spot;
-use super::super::dice::Dice;
 use super::numbers::{near, offset, repeated, split, FAR};
 use super::{List, Plan};
 use crate::bitmaps::PANE_ADDRESS;
+use crate::generator::data::Spot;
+use crate::generator::dice::Dice;
 use crate::opcodes;
 
 impl Plan {
