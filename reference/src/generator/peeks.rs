@@ -25,12 +25,15 @@ pub fn peek_lines(dice: &mut Dice, plan: &Plan, list_start: u32) -> Vec<String> 
         .collect()
 }
 
-/// Now and then a clear, and calls that show the fresh record: run is refused.
+/// Now and then a clear, and calls that show the fresh record.
 pub fn clear_lines(dice: &mut Dice, plan: &mut Plan) -> Vec<String> {
     if !dice.chance(15) {
         return Vec::new();
     }
-    plan.forget();
+    // Where the lists that follow do not know of it, CHAR may find no font.
+    if dice.chance(60) {
+        plan.forget();
+    }
     let number = plan.number;
     let mut lines = vec![format!("c,{number}")];
     if dice.chance(60) {
@@ -38,6 +41,13 @@ pub fn clear_lines(dice: &mut Dice, plan: &mut Plan) -> Vec<String> {
     }
     if dice.chance(40) {
         lines.push(format!("r,{number},5"));
+    }
+    // A routine draws without a bitmap of its own: now there is none.
+    if !plan.routines.is_empty() && dice.chance(40) {
+        let routine = dice.pick(&plan.routines);
+        lines.push(format!("g,{number},{routine:x}"));
+        lines.push(format!("r,{number},9"));
+        lines.push(format!("l,{number}"));
     }
     lines
 }
