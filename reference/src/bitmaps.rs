@@ -1,6 +1,6 @@
 //! Bitmaps, the rule for them, and the clip.
 
-use crate::setup::Row;
+use crate::table::Row;
 use crate::words::bytes_in_rows;
 use std::ops::Range;
 

@@ -3,7 +3,8 @@
 
 use crate::bitmaps::Bitmap;
 use crate::pixels::{Frame, Pane};
-use crate::setup::{Console, PaneRecord, MOST_RETURNS, RUNNING};
+use crate::record::{PaneRecord, MOST_RETURNS, RUNNING};
+use crate::setup::Console;
 use crate::step::{step, Outcome};
 use crate::Refusal;
 use std::ops::Range;

@@ -1,6 +1,7 @@
 //! From the words of the store to a command.
 
 use crate::copies::Block;
+use crate::opcodes;
 use crate::words::{address_of, word_at};
 use crate::Fault;
 
@@ -139,21 +140,152 @@ pub enum Decoded {
     Fault(Fault),
 }
 
-/// How many parameter words an opcode has; nothing for an unknown one. "Every
-/// other opcode is unknown."
-pub fn parameter_count(opcode: u16) -> Option<u64> {
-    match opcode {
-        0x03 | 0x17 | 0x44 | 0x45 => Some(0),
-        0x06 | 0x07 | 0x4D | 0x4E => Some(1),
-        0x02 | 0x0F | 0x0A | 0x0B | 0x3D | 0x41 | 0x4F | 0x52 | 0x53 | 0x54 | 0x55 | 0x58 => {
-            Some(2)
-        }
-        0x74 | 0xBA | 0xA6..=0xA9 => Some(3),
-        0x46 | 0x64 => Some(4),
-        0x1A => Some(5),
-        0xAE => Some(8),
-        _ => None,
+/// The parameter words of a command; the longest has eight.
+#[derive(Clone, Copy, Default)]
+struct Words([u16; 8]);
+
+impl Words {
+    /// "Coordinates are 16-bit signed."
+    fn signed(&self, k: usize) -> i16 {
+        self.0[k] as i16
     }
+
+    /// The address in the first two words.
+    fn address(&self) -> u32 {
+        address_of(self.0[0], self.0[1])
+    }
+
+    /// The rectangle of a copy in the four words from word k on.
+    fn block(&self, k: usize) -> Block {
+        Block {
+            x: self.signed(k),
+            y: self.signed(k + 1),
+            dx: self.signed(k + 2),
+            dy: self.signed(k + 3),
+        }
+    }
+
+    fn texture(&self, transparent: bool) -> Command {
+        Command::DefTexture {
+            transparent,
+            pattern: self.0[0],
+        }
+    }
+
+    fn font(&self, byte_mode: bool) -> Command {
+        Command::DefCharSet {
+            byte_mode,
+            base: self.address(),
+        }
+    }
+
+    fn string(&self, transparent: bool) -> Command {
+        Command::Char {
+            transparent,
+            address: self.address(),
+            count: self.0[2],
+        }
+    }
+}
+
+/// How many parameter words an opcode has, and the command that they make.
+type Shape = (u64, fn(&Words) -> Command);
+
+/// The shape of an opcode; none for an unknown one. "Every other opcode is
+/// unknown."
+fn shape_of(opcode: u16) -> Option<Shape> {
+    let shape: Shape = match opcode {
+        opcodes::NOP => (0, |_| Command::Nop),
+        opcodes::LINK => (2, |words| Command::Link {
+            target: words.address(),
+        }),
+        opcodes::CALL => (2, |words| Command::Call {
+            target: words.address(),
+        }),
+        opcodes::RETURN => (0, |_| Command::Return),
+        opcodes::ABS_MOV => (2, |words| Command::AbsMov {
+            x: words.signed(0),
+            y: words.signed(1),
+        }),
+        opcodes::REL_MOV => (2, |words| Command::RelMov {
+            dx: words.signed(0),
+            dy: words.signed(1),
+        }),
+        opcodes::DEF_BITMAP => (5, |words| Command::DefBitmap {
+            address: words.address(),
+            xmax: words.0[2],
+            ymax: words.0[3],
+            bits: words.0[4],
+        }),
+        opcodes::DEF_CLIP_RECT => (4, |words| Command::DefClipRect {
+            xmin: words.signed(0),
+            ymin: words.signed(1),
+            xmax: words.signed(2),
+            ymax: words.signed(3),
+        }),
+        opcodes::DEF_COLORS => (2, |words| Command::DefColors {
+            foreground: words.0[0],
+            background: words.0[1],
+        }),
+        opcodes::DEF_LOGICAL_OP => (2, |words| Command::DefLogicalOp {
+            mask: words.0[0],
+            code: words.0[1],
+        }),
+        opcodes::DEF_TEXTURE_OPAQUE => (1, |words| words.texture(false)),
+        opcodes::DEF_TEXTURE_TRANSPARENT => (1, |words| words.texture(true)),
+        opcodes::DEF_SPACE => (1, |words| Command::DefSpace {
+            spacing: words.signed(0),
+        }),
+        // "The path in bits 9 and 8 of its word, the rotation in bits 1 and 0."
+        opcodes::DEF_CHAR_ORIENT => (1, |words| Command::DefCharOrient {
+            path: u32::from(words.0[0] >> 8 & 3),
+            rotation: u32::from(words.0[0] & 3),
+        }),
+        opcodes::DEF_CHAR_SET_WORDS => (2, |words| words.font(false)),
+        opcodes::DEF_CHAR_SET_BYTES => (2, |words| words.font(true)),
+        opcodes::ENTER_PICK => (0, |_| Command::EnterPick),
+        opcodes::EXIT_PICK => (0, |_| Command::ExitPick),
+        opcodes::POINT => (2, |words| Command::Point {
+            dx: words.signed(0),
+            dy: words.signed(1),
+        }),
+        opcodes::LINE | opcodes::LINE_OPEN => (2, |words| Command::Line {
+            dx: words.signed(0),
+            dy: words.signed(1),
+        }),
+        opcodes::RECT => (2, |words| Command::Rect {
+            dx: words.signed(0),
+            dy: words.signed(1),
+        }),
+        opcodes::POLYLINE => (3, |words| Command::Polyline {
+            address: words.address(),
+            count: words.0[2],
+        }),
+        opcodes::SCAN_LINES => (3, |words| Command::ScanLines {
+            address: words.address(),
+            count: words.0[2],
+        }),
+        opcodes::BIT_BLT => (4, |words| Command::BitBlt {
+            block: words.block(0),
+        }),
+        opcodes::BIT_BLT_M => (8, |words| Command::BitBltM {
+            address: words.address(),
+            xmax: words.0[2],
+            ymax: words.0[3],
+            block: words.block(4),
+        }),
+        opcodes::CHAR_OPAQUE | opcodes::CHAR_REVERSE_OPAQUE => (3, |words| words.string(false)),
+        opcodes::CHAR_TRANSPARENT | opcodes::CHAR_REVERSE_TRANSPARENT => {
+            (3, |words| words.string(true))
+        }
+        _ => return None,
+    };
+    Some(shape)
+}
+
+/// Whether an opcode is one of the paper's.
+pub fn is_known(opcode: u16) -> bool {
+    shape_of(opcode).is_some()
 }
 
 /// "A pointer that is odd or whose word is outside the store gives fault 21.
@@ -170,12 +302,11 @@ pub fn decode(store: &[u8], pointer: u32) -> Decoded {
     if first & 1 == 1 {
         return Decoded::End;
     }
-    let opcode = first >> 8;
-    let Some(count) = parameter_count(opcode) else {
+    let Some((count, command)) = shape_of(first >> 8) else {
         return Decoded::Fault(Fault(20));
     };
-    let mut words = [0u16; 8];
-    for (k, slot) in (0..count).zip(words.iter_mut()) {
+    let mut words = Words::default();
+    for (k, slot) in (0..count).zip(words.0.iter_mut()) {
         let Some(word) = word_at(store, at + 2 + 2 * k) else {
             return Decoded::Fault(Fault(21));
         };
@@ -183,109 +314,5 @@ pub fn decode(store: &[u8], pointer: u32) -> Decoded {
     }
     // The store is at most 200000 hex bytes long, so the sum fits.
     let next = (at + 2 + 2 * count) as u32;
-    Decoded::Command(command_of(opcode, words), next)
-}
-
-/// The command of a known opcode.
-fn command_of(opcode: u16, words: [u16; 8]) -> Command {
-    // "Coordinates are 16-bit signed."
-    let signed = |k: usize| words[k] as i16;
-    let address = address_of(words[0], words[1]);
-    match opcode {
-        0x03 => Command::Nop,
-        0x02 => Command::Link { target: address },
-        0x0F => Command::Call { target: address },
-        0x17 => Command::Return,
-        0x4F => Command::AbsMov {
-            x: signed(0),
-            y: signed(1),
-        },
-        0x52 => Command::RelMov {
-            dx: signed(0),
-            dy: signed(1),
-        },
-        0x1A => Command::DefBitmap {
-            address,
-            xmax: words[2],
-            ymax: words[3],
-            bits: words[4],
-        },
-        0x46 => Command::DefClipRect {
-            xmin: signed(0),
-            ymin: signed(1),
-            xmax: signed(2),
-            ymax: signed(3),
-        },
-        0x3D => Command::DefColors {
-            foreground: words[0],
-            background: words[1],
-        },
-        0x41 => Command::DefLogicalOp {
-            mask: words[0],
-            code: words[1],
-        },
-        0x06 | 0x07 => Command::DefTexture {
-            transparent: opcode == 0x07,
-            pattern: words[0],
-        },
-        0x4D => Command::DefSpace { spacing: signed(0) },
-        // "The path in bits 9 and 8 of its word, the rotation in bits 1 and 0."
-        0x4E => Command::DefCharOrient {
-            path: u32::from(words[0] >> 8 & 3),
-            rotation: u32::from(words[0] & 3),
-        },
-        0x0A | 0x0B => Command::DefCharSet {
-            byte_mode: opcode == 0x0B,
-            base: address,
-        },
-        0x44 => Command::EnterPick,
-        0x45 => Command::ExitPick,
-        0x53 => Command::Point {
-            dx: signed(0),
-            dy: signed(1),
-        },
-        0x54 | 0x55 => Command::Line {
-            dx: signed(0),
-            dy: signed(1),
-        },
-        0x58 => Command::Rect {
-            dx: signed(0),
-            dy: signed(1),
-        },
-        0x74 => Command::Polyline {
-            address,
-            count: words[2],
-        },
-        0xBA => Command::ScanLines {
-            address,
-            count: words[2],
-        },
-        0x64 => Command::BitBlt {
-            block: Block {
-                x: signed(0),
-                y: signed(1),
-                dx: signed(2),
-                dy: signed(3),
-            },
-        },
-        0xAE => Command::BitBltM {
-            address,
-            xmax: words[2],
-            ymax: words[3],
-            block: Block {
-                x: signed(4),
-                y: signed(5),
-                dx: signed(6),
-                dy: signed(7),
-            },
-        },
-        // A6 and A8 hex are opaque, A7 and A9 hex transparent.
-        0xA6..=0xA9 => Command::Char {
-            transparent: opcode & 1 == 1,
-            address,
-            count: words[2],
-        },
-        // Unknown opcodes do not come here.
-        _ => Command::Nop,
-    }
+    Decoded::Command(command(&words), next)
 }

@@ -2,16 +2,9 @@
 
 use crate::bitmaps::Bitmap;
 use crate::pixels::Pane;
+use crate::record::Font;
 use crate::words::word_at;
 use crate::Fault;
-
-/// The font of DEF_CHAR_SET: its base, and whether strings hold bytes (0B hex)
-/// or words (0A hex).
-#[derive(Clone, Copy, Debug, PartialEq, Eq)]
-pub struct Font {
-    pub base: u32,
-    pub byte_mode: bool,
-}
 
 /// A character as its descriptor gives it.
 #[derive(Clone, Debug, PartialEq, Eq)]

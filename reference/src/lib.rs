@@ -15,10 +15,13 @@ pub mod decode;
 pub mod generator;
 pub mod glyphs;
 pub mod lines;
+pub mod opcodes;
 pub mod pixels;
+pub mod record;
 pub mod script;
 pub mod setup;
 pub mod step;
+pub mod table;
 pub mod words;
 
 /// Why a call was refused: 1 to 12.

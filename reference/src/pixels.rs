@@ -1,7 +1,8 @@
 //! One pixel: where it lies, whether it is drawn, and what it becomes.
 
 use crate::bitmaps::Bitmap;
-use crate::setup::{Geometry, PaneRecord, Row};
+use crate::record::PaneRecord;
+use crate::table::{Geometry, Row};
 use crate::words::{bytes_in_rows, place_of_column, set_word, word_at};
 
 /// What decides where a pane's pixels lie: the geometry and the pane's row.

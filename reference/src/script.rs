@@ -1,17 +1,42 @@
-//! The script program: lines in, replies out.
+//! The script programs: lines in, replies out.
 
 use crate::calls;
-use crate::setup::{set_up, Console, Geometry, Row};
+use crate::setup::{set_up, Console};
+use crate::table::{Geometry, Row};
 use crate::Refusal;
+use std::io::{Read, Write};
 
 /// "Limits: script 8,192 bytes, screen 32,768, stores 16,384."
 pub const LONGEST_SCRIPT: usize = 8_192;
 pub const LARGEST_SCREEN: u128 = 32_768;
 pub const LARGEST_STORES: u64 = 16_384;
 
+/// Which lines a script program takes.
+#[derive(Clone, Copy, Debug, PartialEq, Eq, Default)]
+pub enum Language {
+    /// The paper's program, `panes`.
+    #[default]
+    Panes,
+    /// `calls`: the same, and a letter for each call that the paper gives none,
+    /// `k,pane,address` for peek and `c,pane` for clear.
+    Calls,
+}
+
+impl Language {
+    /// The language of the program with this name.
+    pub fn named(name: &str) -> Option<Language> {
+        match name {
+            "panes" => Some(Language::Panes),
+            "calls" => Some(Language::Calls),
+            _ => None,
+        }
+    }
+}
+
 /// What a script has said so far.
 #[derive(Clone, Default)]
 pub struct Session {
+    pub language: Language,
     pub geometry: Option<Geometry>,
     pub rows: Vec<Row>,
     /// The console, once an `o` was accepted.
@@ -20,12 +45,25 @@ pub struct Session {
     pub stores: Vec<u8>,
 }
 
+/// A program: the script on standard input, its replies on standard output.
+pub fn run_program(language: Language) {
+    let mut script = Vec::new();
+    // One byte past the longest script is enough to know that it is longer.
+    let read = std::io::stdin()
+        .take(LONGEST_SCRIPT as u64 + 1)
+        .read_to_end(&mut script);
+    let replies = answer(language, &script);
+    if read.is_err() || std::io::stdout().write_all(replies.as_bytes()).is_err() {
+        std::process::exit(1);
+    }
+}
+
 /// The replies to a whole script. "A longer script prints only ?."
-pub fn answer(script: &[u8]) -> String {
+pub fn answer(language: Language, script: &[u8]) -> String {
     if script.len() > LONGEST_SCRIPT {
         return "?\n".to_string();
     }
-    let mut session = Session::default();
+    let mut session = Session::new(language);
     let mut replies = String::new();
     for line in lines_of(script) {
         // A line "prints ? and does nothing".
@@ -53,6 +91,14 @@ pub fn lines_of(script: &[u8]) -> Vec<&[u8]> {
 }
 
 impl Session {
+    /// Nothing has been said yet.
+    pub fn new(language: Language) -> Session {
+        Session {
+            language,
+            ..Session::default()
+        }
+    }
+
     /// Takes one line and answers its reply, which is empty for `s` and `p`;
     /// nothing for a line that prints ?.
     pub fn line(&mut self, line: &[u8]) -> Option<String> {
@@ -79,6 +125,10 @@ impl Session {
             [b"r", pane, budget] => self.run(decimal(pane)?, decimal(budget)?),
             [b"l", pane] => self.look(decimal(pane)?),
             [b"x", pane, x, y] => self.pixel(decimal(pane)?, decimal(x)?, decimal(y)?),
+            // What follows are letters that `panes` doesn't have.
+            _ if self.language == Language::Panes => None,
+            [b"k", pane, address] => self.peek(decimal(pane)?, hex(address)?),
+            [b"c", pane] => self.clear(decimal(pane)?),
             _ => None,
         }
     }
@@ -180,6 +230,19 @@ impl Session {
         let console = self.console.as_ref()?;
         let reply = calls::pixel(console, &self.screen, &self.stores, pane, x, y);
         Some(reply_line('x', reply.map(|value| format!(",{value}"))))
+    }
+
+    /// k the byte, in decimal.
+    fn peek(&self, pane: u32, address: u32) -> Option<String> {
+        let console = self.console.as_ref()?;
+        let reply = calls::peek(console, &self.screen, &self.stores, pane, address);
+        Some(reply_line('k', reply.map(|byte| format!(",{byte}"))))
+    }
+
+    fn clear(&mut self, pane: u32) -> Option<String> {
+        let console = self.console.as_mut()?;
+        let reply = calls::clear(console, &self.screen, &self.stores, pane);
+        Some(reply_line('c', reply.map(|()| String::new())))
     }
 }
 

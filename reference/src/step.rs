@@ -2,10 +2,10 @@
 
 use crate::bitmaps::{Bitmap, Clip};
 use crate::decode::{decode, Command, Decoded};
-use crate::glyphs::{check_bytes, Font};
+use crate::glyphs::check_bytes;
 use crate::lines::{line_pixels, outline_pixels};
 use crate::pixels::Pane;
-use crate::setup::{ENDED, FAULTED, MOST_RETURNS};
+use crate::record::{Font, ENDED, FAULTED, MOST_RETURNS};
 use crate::words::word_at;
 use crate::Fault;
 

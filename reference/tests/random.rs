@@ -4,7 +4,7 @@
 mod bench;
 use bench::*;
 use reference::generator::{script, stats::Stats};
-use reference::script::{answer, LONGEST_SCRIPT};
+use reference::script::{answer, Language, LONGEST_SCRIPT};
 
 /// A short sequence of random numbers.
 struct Numbers(u64);
@@ -18,14 +18,28 @@ impl Numbers {
     }
 }
 
+const LANGUAGES: [Language; 2] = [Language::Panes, Language::Calls];
+
 #[test]
 fn random_scripts_are_short_and_depend_on_the_seed_alone() {
-    for seed in 1..60 {
-        let text = script(seed);
-        assert!(text.len() <= LONGEST_SCRIPT);
-        assert_eq!(text, script(seed));
-        let replies = answer(&text);
-        assert!(replies.is_empty() || replies.ends_with('\n'));
+    for language in LANGUAGES {
+        for seed in 1..60 {
+            let text = script(language, seed);
+            assert!(text.len() <= LONGEST_SCRIPT);
+            assert_eq!(text, script(language, seed));
+            assert!(answer(language, &text).ends_with('\n'));
+        }
+    }
+}
+
+/// A script that printed nothing would compare nothing. These seeds once made
+/// empty scripts.
+#[test]
+fn every_random_script_prints_something() {
+    for seed in [871, 1263, 2410] {
+        for language in LANGUAGES {
+            assert!(!answer(language, &script(language, seed)).is_empty());
+        }
     }
 }
 
@@ -34,7 +48,8 @@ fn random_scripts_are_short_and_depend_on_the_seed_alone() {
 fn spoiled_scripts_are_answered() {
     let mut numbers = Numbers(7);
     for seed in 1..120 {
-        let mut text = script(seed);
+        let language = LANGUAGES[seed as usize % 2];
+        let mut text = script(language, seed);
         for _ in 0..8 {
             if !text.is_empty() {
                 let index = (numbers.next() % text.len() as u64) as usize;
@@ -43,7 +58,7 @@ fn spoiled_scripts_are_answered() {
                     [b',', b'\n', b'0', b'1', 0, 255, b'f', b'-'][(numbers.next() % 8) as usize];
             }
         }
-        answer(&text);
+        answer(language, &text);
     }
 }
 
@@ -52,7 +67,7 @@ fn spoiled_scripts_are_answered() {
 #[test]
 fn random_words_keep_to_their_pane() {
     let opcodes: Vec<u16> = (0..256)
-        .filter(|opcode| reference::decode::parameter_count(*opcode).is_some())
+        .filter(|opcode| reference::decode::is_known(*opcode))
         .collect();
     let mut numbers = Numbers(99);
     for round in 0..400u32 {
@@ -99,7 +114,7 @@ fn random_words_keep_to_their_pane() {
 /// The random scripts meet every command, fault and refusal that they can.
 #[test]
 fn random_scripts_cover_the_paper() {
-    let stats = Stats::of(150);
+    let stats = Stats::of(Language::Panes, 150);
     for name in [
         "NOP",
         "LINK",
@@ -143,4 +158,21 @@ fn random_scripts_cover_the_paper() {
             "refusal {refusal}"
         );
     }
+}
+
+/// Those of `calls` peek and clear well, and meet their refusals; bytes that
+/// were drawn are among those peeked.
+#[test]
+fn random_scripts_of_calls_peek_and_clear() {
+    let stats = Stats::of(Language::Calls, 150);
+    for (letter, refusal) in [('k', 0), ('k', 1), ('k', 2), ('c', 0), ('c', 1), ('r', 4)] {
+        let times = stats.refusals.get(&(letter, refusal));
+        assert!(
+            times.is_some_and(|times| *times >= 10),
+            "{letter},{refusal}"
+        );
+    }
+    assert!(stats.peeks_of_drawn >= 100);
+    let panes = Stats::of(Language::Panes, 150);
+    assert!(panes.refusals.keys().all(|key| !"kc".contains(key.0)));
 }

@@ -5,8 +5,7 @@ mod bench;
 use bench::*;
 use reference::bitmaps::{Bitmap, Clip};
 use reference::calls::RunReply;
-use reference::glyphs::Font;
-use reference::setup::PaneRecord;
+use reference::record::{Font, PaneRecord};
 use reference::Refusal;
 
 /// Two panes side by side on a screen of 16 by 4 pixels.

@@ -2,7 +2,8 @@
 //! Both end with the same screen and store, which is checked.
 
 use reference::calls;
-use reference::setup::{set_up, Console, Geometry, Row};
+use reference::setup::{set_up, Console};
+use reference::table::{Geometry, Row};
 use std::time::Instant;
 
 extern "C" {

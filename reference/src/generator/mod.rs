@@ -7,7 +7,9 @@
 mod data;
 mod dice;
 mod lists;
+mod peeks;
 mod scripts;
+mod seasoning;
 pub mod stats;
 
 pub use scripts::script;

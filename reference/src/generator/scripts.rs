@@ -2,16 +2,18 @@
 
 use super::dice::Dice;
 use super::lists::{Ending, List, Plan};
-use crate::script::LONGEST_SCRIPT;
+use super::peeks::{any_call, clear_lines, peek_lines};
+use super::seasoning::{nonsense, refused, season, strange_line};
+use crate::script::{Language, LONGEST_SCRIPT};
 use std::fmt::Write;
 
 /// The random script of a seed, at most 8,192 bytes long.
-pub fn script(seed: u64) -> Vec<u8> {
+pub fn script(language: Language, seed: u64) -> Vec<u8> {
     let mut dice = Dice::new(seed);
     let mut lines = match dice.weighted(&[94, 5, 1]) {
-        0 => usual(&mut dice),
-        1 => refused(&mut dice),
-        _ => nonsense(&mut dice),
+        0 => usual(&mut dice, language),
+        1 => refused(&mut dice, language),
+        _ => nonsense(&mut dice, language),
     };
     let mut text = String::new();
     for line in lines.drain(..) {
@@ -23,6 +25,11 @@ pub fn script(seed: u64) -> Vec<u8> {
     }
     if dice.chance(5) {
         text.pop();
+    }
+    // Only `s` and `p` print nothing. A script that prints nothing at all would
+    // compare nothing.
+    if text.lines().all(|line| line.starts_with(['s', 'p'])) {
+        text.push_str("?\n");
     }
     text.into_bytes()
 }
@@ -153,7 +160,12 @@ fn size(lines: &[String]) -> usize {
 
 /// The lines of one pane in groups that stay together: data first, then list
 /// after list, within so many bytes of script.
-fn pane_groups(dice: &mut Dice, plan: &mut Plan, mut room: usize) -> Vec<Vec<String>> {
+fn pane_groups(
+    dice: &mut Dice,
+    language: Language,
+    plan: &mut Plan,
+    mut room: usize,
+) -> Vec<Vec<String>> {
     let number = plan.number;
     let mut groups = Vec::new();
     let take = |groups: &mut Vec<Vec<String>>, lines: Vec<String>, room: &mut usize| {
@@ -201,6 +213,10 @@ fn pane_groups(dice: &mut Dice, plan: &mut Plan, mut room: usize) -> Vec<Vec<Str
         let list = plan.write_list(dice, most, ending);
         let mut lines = vec![put_words(number, list.start, &list.words)];
         lines.extend(run_lines(dice, number, &list, ending));
+        if language == Language::Calls {
+            lines.extend(peek_lines(dice, plan, list.start));
+            lines.extend(clear_lines(dice, plan));
+        }
         take(&mut groups, lines, &mut room);
     }
     groups
@@ -208,7 +224,7 @@ fn pane_groups(dice: &mut Dice, plan: &mut Plan, mut room: usize) -> Vec<Vec<Str
 
 /// A script that runs: set-up, lists on each pane in turn, then the pixels, and
 /// then the store shown on the pane and its pixels.
-fn usual(dice: &mut Dice) -> Vec<String> {
+fn usual(dice: &mut Dice, language: Language) -> Vec<String> {
     let depth = dice.pick(&[1u16, 2, 4, 8]);
     let count = 1 + dice.weighted(&[40, 35, 25]);
     let places = places(dice, count);
@@ -260,7 +276,7 @@ fn usual(dice: &mut Dice) -> Vec<String> {
     for plan in &mut plans {
         // Each pane keeps some words for the list that shows its store.
         plan.end = plan.end.saturating_sub(140);
-        let mut groups = pane_groups(dice, plan, room / count);
+        let mut groups = pane_groups(dice, language, plan, room / count);
         plan.end += 140;
         groups.reverse();
         queues.push(groups);
@@ -269,7 +285,7 @@ fn usual(dice: &mut Dice) -> Vec<String> {
     while let Some(index) = next_queue(dice, &queues) {
         body.extend(queues[index].pop().unwrap_or_default());
     }
-    season(dice, &mut body, count as i64);
+    season(dice, language, &mut body, count as i64);
 
     // Now and then more panes, of one pixel each and without a store.
     let (mut rows, mut row_lengths, mut screen_width) = (places.clone(), lengths.clone(), width);
@@ -292,6 +308,10 @@ fn usual(dice: &mut Dice) -> Vec<String> {
     }
 
     let mut lines = set_up_lines(dice, screen_width, height, depth, &rows, &row_lengths);
+    if language == Language::Calls && dice.chance(10) {
+        let index = dice.between(0, lines.len() as i64 - 1) as usize;
+        lines.insert(index, any_call(dice));
+    }
     lines.extend(body);
     for (plan, place) in plans.iter().zip(&places) {
         lines.push(format!("l,{}", plan.number));
@@ -386,210 +406,6 @@ fn set_up_lines(
     lines.push("o".to_string());
     if dice.chance(6) {
         lines.push(dice.pick(&["o", "s,8,8,1", "p,0,0,1,1,0"]).to_string());
-    }
-    lines
-}
-
-/// Adds calls that are refused and lines that are no lines.
-fn season(dice: &mut Dice, body: &mut Vec<String>, count: i64) {
-    for _ in 0..dice.weighted(&[30, 30, 20, 12, 8]) {
-        let pane = dice.between(0, count - 1);
-        let line = match dice.weighted(&[12, 12, 12, 8, 12, 10, 12, 12, 10, 20]) {
-            0 => {
-                let other = dice.pick(&[count, count + 1, 7, 8, 255, 4294967295]);
-                dice.pick(&[
-                    "l,#", "r,#,5", "g,#,0", "g,#,1", "x,#,0,0", "w,#,0,00", "w,#,0,",
-                ])
-                .replace('#', &other.to_string())
-            }
-            1 => format!("g,{pane},{:x}", dice.between(0, 200) * 2 + 1),
-            2 => format!(
-                "g,{pane},{:x}",
-                dice.pick(&[0x4000, 0xFFFE, 0xFFFF_FFFEu32])
-            ),
-            3 => format!(
-                "w,{pane},{:x},{}",
-                dice.pick(&[0x4000, 0xFFFF, 0xFFFF_FFFFu32]),
-                dice.pick(&["", "00", "abcd"])
-            ),
-            4 => format!("r,{pane},{}", dice.between(0, 9)),
-            5 => format!(
-                "x,{pane},{},{}",
-                dice.pick(&[24, 30, 4096, 65536, 4294967295u32]),
-                dice.between(0, 3)
-            ),
-            6 => format!(
-                "x,{pane},{},{}",
-                dice.between(0, 3),
-                dice.pick(&[16, 17, 4096, 4294967295u32])
-            ),
-            7 => format!("l,{pane}"),
-            8 => dice.pick(&["o", "s,8,8,1", "p,0,0,1,1,0"]).to_string(),
-            _ => {
-                if dice.chance(50) || body.is_empty() {
-                    strange_line(dice)
-                } else {
-                    let index = dice.between(0, body.len() as i64 - 1) as usize;
-                    bent_line(dice, &body[index].clone())
-                }
-            }
-        };
-        let index = dice.between(0, body.len() as i64) as usize;
-        body.insert(index, line);
-    }
-}
-
-/// A line that is malformed.
-fn strange_line(dice: &mut Dice) -> String {
-    dice.pick(&[
-        "",
-        ",",
-        "?",
-        "o,",
-        "l",
-        "l,",
-        "l,0,0",
-        "l,+0",
-        "l, 0",
-        "l,00000000000000000000000000x",
-        "r,0",
-        "r,0,4294967296",
-        "r,0,-1",
-        "r,0,f",
-        "g,0",
-        "g,0,g",
-        "g,0,100000000",
-        "g,,0",
-        "x,0,1",
-        "x,0,1,1,1",
-        "x,0,0x1,1",
-        "w,0,0",
-        "w,0,0,0",
-        "w,0,0,0g",
-        "w,0,,00",
-        "w,0,0,00,",
-        "L,0",
-        "k,0",
-        "s,8,8",
-        "p,0,0,1,1",
-        "l,0\r",
-        "# a remark",
-        "x;0;0;0",
-        "\u{e9}",
-        "w,0,0,003d 0100",
-    ])
-    .to_string()
-}
-
-/// A line with one letter changed, lost or doubled.
-fn bent_line(dice: &mut Dice, line: &str) -> String {
-    let mut letters: Vec<char> = line.chars().take(40).collect();
-    if letters.is_empty() {
-        return ",".to_string();
-    }
-    let index = dice.between(0, letters.len() as i64 - 1) as usize;
-    match dice.between(0, 2) {
-        0 => letters[index] = dice.pick(&[',', '0', 'f', 'F', '-', ' ', 'z', 'x', '9']),
-        1 => {
-            letters.remove(index);
-        }
-        _ => letters.insert(index, letters[index]),
-    }
-    letters.into_iter().collect()
-}
-
-/// A script whose set-up is refused, with some calls after it.
-fn refused(dice: &mut Dice) -> Vec<String> {
-    let mut lines = Vec::new();
-    match dice.weighted(&[25, 25, 25, 25]) {
-        0 => {
-            let screen = dice.pick(&[
-                "s,0,5,1",
-                "s,5,0,8",
-                "s,4097,1,8",
-                "s,1,4097,1",
-                "s,8,8,3",
-                "s,8,8,0",
-                "s,100,100,16",
-            ]);
-            lines.push(screen.to_string());
-            lines.push("p,0,0,4,4,64".to_string());
-        }
-        1 => {
-            lines.push("s,20,10,4".to_string());
-            lines.push("p,0,0,4,4,64".to_string());
-            let row = dice.pick(&[
-                "p,4,0,17,4,64",
-                "p,4,0,4,11,63",
-                "p,4,0,0,4,2",
-                "p,4,4,4,0,3",
-                "p,4294967295,0,1,1,2",
-                "p,20,0,1,1,2",
-            ]);
-            lines.push(row.to_string());
-        }
-        2 => {
-            lines.push("s,20,10,2".to_string());
-            lines.push("p,0,0,4,4,64".to_string());
-            lines.push(
-                dice.pick(&["p,4,0,4,4,63", "p,3,3,4,4,1", "p,4,4,4,4,16319"])
-                    .to_string(),
-            );
-        }
-        _ => {
-            lines.push("s,20,10,8".to_string());
-            lines.push("p,4,4,5,3,64".to_string());
-            let row = dice.pick(&[
-                "p,8,6,4,4,64",
-                "p,0,0,5,5,2",
-                "p,5,5,1,1,0",
-                "p,4,4,5,3,8",
-                "p,0,0,20,10,0",
-            ]);
-            lines.push(row.to_string());
-        }
-    }
-    lines.push("o".to_string());
-    for _ in 0..dice.between(1, 4) {
-        let line = dice.pick(&[
-            "l,0",
-            "g,0,0",
-            "r,0,1",
-            "x,0,0,0",
-            "w,0,0,0001",
-            "o",
-            "s,20,10,4",
-            "p,19,9,1,1,2",
-        ]);
-        lines.push(line.to_string());
-    }
-    lines.push("o".to_string());
-    lines
-}
-
-/// Lines without sense.
-fn nonsense(dice: &mut Dice) -> Vec<String> {
-    let mut lines = Vec::new();
-    for _ in 0..dice.between(0, 12) {
-        let line = if dice.chance(60) {
-            strange_line(dice)
-        } else {
-            let good = dice.pick(&[
-                "s,8,8,1",
-                "p,0,0,8,8,64",
-                "o",
-                "l,0",
-                "w,0,0,01005401",
-                "g,0,0",
-                "r,0,9",
-            ]);
-            if dice.chance(40) {
-                bent_line(dice, good)
-            } else {
-                good.to_string()
-            }
-        };
-        lines.push(line);
     }
     lines
 }

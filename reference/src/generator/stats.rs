@@ -5,8 +5,8 @@ use super::script;
 use crate::bitmaps::{Bitmap, PANE_ADDRESS};
 use crate::calls::lend;
 use crate::decode::Command;
-use crate::script::{decimal, lines_of, Session};
-use crate::setup::RUNNING;
+use crate::record::RUNNING;
+use crate::script::{decimal, hex, lines_of, Language, Session, LARGEST_STORES};
 use crate::step::{step, Outcome};
 use std::collections::BTreeMap;
 
@@ -26,6 +26,9 @@ pub struct Stats {
     pub refusals: BTreeMap<(char, u32), u64>,
     pub pixels: u64,
     pub pixels_not_zero: u64,
+    pub peeks: u64,
+    /// How many of them read a byte that a run had changed.
+    pub peeks_of_drawn: u64,
     pub depths: BTreeMap<u32, u64>,
     pub panes: BTreeMap<usize, u64>,
     pub picked: u64,
@@ -38,22 +41,24 @@ pub struct Stats {
 
 impl Stats {
     /// Runs the scripts of so many seeds, from 1 on.
-    pub fn of(count: u64) -> Stats {
+    pub fn of(language: Language, count: u64) -> Stats {
         let mut stats = Stats::default();
         for seed in 1..=count {
-            stats.add(&script(seed));
+            stats.add(language, &script(language, seed));
         }
         stats
     }
 
-    fn add(&mut self, text: &[u8]) {
+    fn add(&mut self, language: Language, text: &[u8]) {
         self.scripts += 1;
         self.bytes += text.len() as u64;
-        let mut session = Session::default();
+        let mut session = Session::new(language);
         let mut done = 0;
+        let mut drawn = vec![false; LARGEST_STORES as usize];
         for line in lines_of(text) {
             self.lines += 1;
             done += self.watch_run(&session, line);
+            let stores = session.stores.clone();
             let Some(reply) = session.line(line) else {
                 self.malformed += 1;
                 continue;
@@ -68,6 +73,16 @@ impl Stats {
             if letter == 'x' && number == 0 {
                 self.pixels += 1;
                 self.pixels_not_zero += u64::from(fields.last() != Some(&"0"));
+            }
+            if letter == 'k' && number == 0 {
+                self.peeks += 1;
+                let at = peeked(&session, line);
+                self.peeks_of_drawn += u64::from(at.is_some_and(|at| drawn[at]));
+            }
+            if letter == 'r' {
+                for (at, (old, new)) in stores.iter().zip(&session.stores).enumerate() {
+                    drawn[at] |= old != new;
+                }
             }
             if letter == 'l' && number == 0 {
                 self.picked += u64::from(fields[7] == "1");
@@ -156,6 +171,12 @@ impl Stats {
             self.pixels / scripts,
             self.pixels_not_zero / scripts
         ));
+        if self.peeks > 0 {
+            text.push(format!(
+                "{} bytes peeked, {} of them changed by a run",
+                self.peeks, self.peeks_of_drawn
+            ));
+        }
         text.push(format!("depths {:?}, panes {:?}", self.depths, self.panes));
         text.push(format!(
             "runs to an end word {}, looks with pick flag {}, with trap flag {}",
@@ -183,6 +204,16 @@ impl Stats {
         }
         text.join("\n")
     }
+}
+
+/// Where the byte of an accepted peek stands in the stores.
+fn peeked(session: &Session, line: &[u8]) -> Option<usize> {
+    let fields: Vec<&[u8]> = line.split(|byte| *byte == b',').collect();
+    let [_, pane, address] = fields[..] else {
+        return None;
+    };
+    let row = session.rows.get(decimal(pane)? as usize)?;
+    Some((row.store_start + hex(address)?) as usize)
 }
 
 /// A command's name; for a drawing command also where it draws, and how.

@@ -4,7 +4,9 @@
 #![allow(dead_code)]
 
 use reference::calls::{self, LookReply, RunReply};
-use reference::setup::{set_up, Console, Geometry, PaneRecord, Row};
+use reference::record::PaneRecord;
+use reference::setup::{set_up, Console};
+use reference::table::{Geometry, Row};
 use reference::Refusal;
 
 #[derive(Clone, Debug, PartialEq)]

@@ -1,0 +1,113 @@
+//! What the console keeps of a pane: a fresh record, and when one is sound.
+
+use crate::bitmaps::{Bitmap, Clip};
+use crate::table::Row;
+
+/// "Status: 0 parked, 1 running, 2 ended, 3 faulted."
+pub const PARKED: u32 = 0;
+pub const RUNNING: u32 = 1;
+pub const ENDED: u32 = 2;
+pub const FAULTED: u32 = 3;
+
+/// The most return addresses that CALL keeps.
+pub const MOST_RETURNS: u32 = 8;
+
+/// The font of DEF_CHAR_SET: its base, and whether strings hold bytes (0B hex)
+/// or words (0A hex).
+#[derive(Clone, Copy, Debug, PartialEq, Eq)]
+pub struct Font {
+    pub base: u32,
+    pub byte_mode: bool,
+}
+
+/// What the console keeps of one pane.
+#[derive(Clone, Debug, PartialEq, Eq)]
+pub struct PaneRecord {
+    pub status: u32,
+    pub fault: u32,
+    pub pointer: u32,
+    pub x: i16,
+    pub y: i16,
+    pub bitmap: Bitmap,
+    pub clip: Clip,
+    pub foreground: u16,
+    pub background: u16,
+    pub operation: u32,
+    pub mask: u16,
+    pub pattern: u16,
+    pub transparent: bool,
+    pub spacing: i16,
+    pub path: u32,
+    pub rotation: u32,
+    pub font: Option<Font>,
+    pub pick_mode: bool,
+    pub pick_flag: bool,
+    pub trap_flag: bool,
+    pub return_count: u32,
+    pub returns: [u32; MOST_RETURNS as usize],
+}
+
+impl PaneRecord {
+    /// "A fresh pane record: status 0, fault 0, pointer 0, position (0,0), no
+    /// bitmap, clip all 0, both colours 0, operation 'replace' (new bit =
+    /// source bit), colour mask FFFF hex, pattern FFFF hex opaque, spacing 0,
+    /// path and rotation 0, no font, pick mode off, pick and trap flags 0, no
+    /// return addresses." Replace is code 5: "source".
+    pub fn fresh() -> PaneRecord {
+        PaneRecord {
+            status: PARKED,
+            fault: 0,
+            pointer: 0,
+            x: 0,
+            y: 0,
+            bitmap: Bitmap::None,
+            clip: Clip::default(),
+            foreground: 0,
+            background: 0,
+            operation: 5,
+            mask: 0xFFFF,
+            pattern: 0xFFFF,
+            transparent: false,
+            spacing: 0,
+            path: 0,
+            rotation: 0,
+            font: None,
+            pick_mode: false,
+            pick_flag: false,
+            trap_flag: false,
+            return_count: 0,
+            returns: [0; MOST_RETURNS as usize],
+        }
+    }
+
+    /// Refusal 12: "the pane record has a status above 3; a fault outside 20
+    /// to 29 at status 3 or not 0 elsewhere; a bitmap breaking DEF_BITMAP's
+    /// rule; a clip value outside the bitmap, or not 0 without one; a font
+    /// base odd or above 22 bits; an operation above 15; a path or rotation
+    /// above 3; over eight return addresses."
+    pub fn is_sound(&self, row: &Row, depth: u32) -> bool {
+        let fault_sound = if self.status == FAULTED {
+            (20..=29).contains(&self.fault)
+        } else {
+            self.fault == 0
+        };
+        let clip_sound = if self.bitmap == Bitmap::None {
+            self.clip == Clip::default()
+        } else {
+            self.clip.lies_in(&self.bitmap)
+        };
+        let font_sound = match self.font {
+            None => true,
+            Some(font) => font.base % 2 == 0 && font.base <= 0x3F_FFFF,
+        };
+        self.status <= 3
+            && fault_sound
+            && self.bitmap.keeps_rule(row, depth)
+            && clip_sound
+            && font_sound
+            && self.operation <= 15
+            && self.path <= 3
+            && self.rotation <= 3
+            && self.return_count <= MOST_RETURNS
+    }
+}
