@@ -12,7 +12,8 @@ pub mod SetupLaws
 pub mod CallLaws
 pub mod RunLaws
 pub mod QuietLaws
--- Tests of the definitions by computation: what they are made of, then the bench figures, the script example, pictures, faults and refusals.
+-- Tests of the definitions by computation: what they are made of, then the bench figures, the script example, pictures, faults, refusals,
+-- tables, and bits that do not count.
 pub mod Computing
 pub mod Listings
 pub mod Scripts
@@ -31,3 +32,4 @@ pub mod RecordCases
 pub mod CallCases
 pub mod StateCases
 pub mod TableCases
+pub mod IgnoredBits

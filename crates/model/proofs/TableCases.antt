@@ -3,7 +3,7 @@
 use mathlib.Core.Path.{_≡_, refl}
 use mathlib.Core.Bool.{Bool, true, false, not, _&&_, _||_}
 use mathlib.Core.List.{List, [], _∷_}
-use Prim.Native.Nat.{ℕ, _*_}
+use Prim.Native.Nat.{ℕ, _+_, _*_}
 use lib.Dec.{eqb}
 use lib.IntN.{ℤ, pos}
 use Rattle.model.specs.Ranges.{listed, joined}
@@ -74,15 +74,16 @@ opcodes =
     ∷ entry 0xBA (Do (command.ScanLines 0x21001 3) 8)
     ∷ []
 
-abbrev decodedEach : List Entry → List Decoded
-decodedEach [] = []
-decodedEach (e ∷ es) = decode 18 (bytes (0x100 * e .op ∷ words)) 0 ∷ decodedEach es
+-- by the low byte of the first word
+abbrev pub decodedEach : ℕ → List Entry → List Decoded
+decodedEach low [] = []
+decodedEach low (e ∷ es) = decode 18 (bytes ((0x100 * e .op + low) ∷ words)) 0 ∷ decodedEach low es
 
-abbrev dueEach : List Entry → List Decoded
+abbrev pub dueEach : List Entry → List Decoded
 dueEach [] = []
 dueEach (e ∷ es) = e .decoded ∷ dueEach es
 
-pub opcodes-decoded : decodedEach opcodes ≡ dueEach opcodes
+pub opcodes-decoded : decodedEach 0 opcodes ≡ dueEach opcodes
 unfolding machine
 opcodes-decoded = refl
 

@@ -1,4 +1,5 @@
--- The bench figures P1 to P12 (01, "Bench figures") as one table; proofs/Figures.antt has the theorem that all of it holds.
+-- The bench figures P1 to P12 (01, "Bench figures") as one table. That all of it holds is a theorem (proofs/Figures.antt), and the contract of
+-- `figures_hold`.
 use mathlib.Core.Path.{_≡_}
 use mathlib.Core.Bool.{false}
 use mathlib.Core.List.{List, [], _∷_, _++_}

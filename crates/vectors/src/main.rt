@@ -4,29 +4,63 @@ use libc::STDOUT_FILENO;
 ghost use Prim.Native.Nat.{_+_, _<_, _^_};
 ghost use Rattle.io.specs.Counts.{Counts};
 
-// The file that argument k names, at the start of a buffer; answers how many bytes it has.
-fn read_file(k: usize, buffer: &mut [u8]) -> usize
-    ensures { λ r. ⌜ Counts r (now (buffer .exit)) ⌝ }
+// A file: whether it is there, and how many bytes it has.
+struct File {
+    found: bool,
+    length: usize,
+}
+
+// How a script went: a file is missing, the replies differ, there is no script and there are no replies, or they are as expected.
+enum Verdict {
+    Missing,
+    Differs,
+    Empty,
+    Expected,
+}
+
+// The file that argument k names, at the start of a buffer.
+fn read_file(k: usize, buffer: &mut [u8]) -> File
+    ensures { λ r. ⌜ Counts (r .length) (now (buffer .exit)) ⌝ }
 {
     let mut name = io::buffer();
     let length = os::arg(k, &mut name);
     let file = os::open_read(&name[..length]);
+    if file < 0 {
+        return File {
+            found: false,
+            length: 0,
+        };
+    }
     let n = io::read_full(file, buffer);
     libc::close(file);
-    n
+    File {
+        found: true,
+        length: n,
+    }
 }
 
 // Whether the script that argument k names prints what the file after it has.
-fn as_expected(k: usize) -> bool
+fn verdict_on(k: usize) -> Verdict
     requires { ⌜ k + 1 < 2 ^ 64 ⌝ }
 {
     let mut script = io::large_buffer();
     let read = read_file(k, &mut script);
     let mut expected = io::large_buffer();
     let due = read_file(k + 1, &mut expected);
+    if !(read.found & due.found) {
+        return Verdict::Missing;
+    }
+    let n = read.length;
+    let m = due.length;
     let mut replies = script::room();
-    let written = script::answer(parser::Language::Panes, &script[..read], &mut replies);
-    check::same(&replies[..written], &expected[..due])
+    let written = script::answer(parser::Language::Panes, &script[..n], &mut replies);
+    if !check::same(&replies[..written], &expected[..m]) {
+        return Verdict::Differs;
+    }
+    if n + m == 0 {
+        return Verdict::Empty;
+    }
+    Verdict::Expected
 }
 
 // Runs one script, and writes its name and how it went.
@@ -36,11 +70,28 @@ fn judge(k: usize)
     let mut name = io::buffer();
     let length = os::arg(k, &mut name);
     io::write_all(STDOUT_FILENO, &name[..length]);
-    if as_expected(k) {
-        io::write_all(STDOUT_FILENO, b": as expected\n");
-        return;
+    let v = verdict_on(k);
+    match v {
+        Verdict::Missing => {
+            io::write_all(STDOUT_FILENO, b": missing\n");
+        }
+        Verdict::Differs => {
+            io::write_all(STDOUT_FILENO, b": differs\n");
+        }
+        Verdict::Empty => {
+            io::write_all(STDOUT_FILENO, b": empty, as expected\n");
+        }
+        Verdict::Expected => {
+            io::write_all(STDOUT_FILENO, b": as expected\n");
+        }
     }
-    io::write_all(STDOUT_FILENO, b": differs\n");
+}
+
+// Of so many arguments, the program's own name among them, the last is a script without its replies if their number is even.
+fn judge_last(count: usize) {
+    if count % 2 == 0 {
+        io::write_all(STDOUT_FILENO, b"a script without its replies\n");
+    }
 }
 
 // Runs the scripts that the arguments name, two arguments each; the first argument is the program's own name.
@@ -51,4 +102,5 @@ fn main() {
         judge(2 * done + 1);
         done += 1;
     }
+    judge_last(count);
 }

@@ -34,6 +34,9 @@ loop-less c = search needs
 loop-again : tie.Need-loop-again Inv-loop μ-loop
 loop-again c = search needs
 
+judge-last-requires : tie.Need-judge-last-requires Inv-loop μ-loop
+judge-last-requires c κs = search needs
+
 returns : tie.Need-returns Inv-loop μ-loop
 returns c = search needs
 
@@ -51,4 +54,5 @@ main-spec =
     add-done
     loop-less
     loop-again
+    judge-last-requires
     returns)

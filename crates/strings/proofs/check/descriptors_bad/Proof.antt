@@ -27,7 +27,7 @@ descriptor-of-requires : tie.Need-descriptor-of-requires Inv-loop μ-loop
 descriptor-of-requires c κs =
     let start = c .before .before .before in
     let a = start .args in
-    stringBad-spelt (a .r) (a .active) (a .store .now) (a .font) (a .string) (a .count) (start .pre .0 .long) (start .pre .1) (c .before .loop .k) (c .loop-test .taken)
+    stringBad-spelt (a .r) (a .active) (a .store .now) (a .font) (a .string) (a .count) (start .pre .0 .long) (start .pre .1) _ (omega arith)
 
 descriptor-bad-requires : tie.Need-descriptor-bad-requires Inv-loop μ-loop
 descriptor-bad-requires c κs =
