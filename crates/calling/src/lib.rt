@@ -26,7 +26,8 @@ fn put(
     address: u32,
     count: u32,
 ) -> Step
-    ensures { λ r. ⌜ leaves r (now (screen .entry)) (now (stores .exit)) ≡ made session 119 (exec (state (session .console) (now (screen .entry)) (now (stores .entry))) (on pane (calls.put address (take count (now (buffer .entry)))))) ⌝ }
+    ensures { λ r. ⌜ leaves r (now (screen .entry)) (now (stores .exit))
+        ≡ made session 119 (exec (state (session .console) (now (screen .entry)) (now (stores .entry))) (on pane (calls.put address (take count (now (buffer .entry)))))) ⌝ }
 {
     let n = counted(count as usize, buffer);
     let answered = console::put(screen, stores, session.console, pane, address, &buffer[..n]);
@@ -35,7 +36,8 @@ fn put(
 
 // Start.
 fn start(screen: &[u8], stores: &[u8], session: Session, pane: u32, address: u32) -> Step
-    ensures { λ r. ⌜ leaves r (now (screen .entry)) (now (stores .entry)) ≡ made session 103 (exec (state (session .console) (now (screen .entry)) (now (stores .entry))) (on pane (calls.start address))) ⌝ }
+    ensures { λ r. ⌜ leaves r (now (screen .entry)) (now (stores .entry))
+        ≡ made session 103 (exec (state (session .console) (now (screen .entry)) (now (stores .entry))) (on pane (calls.start address))) ⌝ }
 {
     replied(
         session,
@@ -46,7 +48,8 @@ fn start(screen: &[u8], stores: &[u8], session: Session, pane: u32, address: u32
 
 // Run.
 fn run(screen: &mut [u8], stores: &mut [u8], session: Session, pane: u32, budget: u32) -> Step
-    ensures { λ r. ⌜ leaves r (now (screen .exit)) (now (stores .exit)) ≡ made session 114 (exec (state (session .console) (now (screen .entry)) (now (stores .entry))) (on pane (calls.run budget))) ⌝ }
+    ensures { λ r. ⌜ leaves r (now (screen .exit)) (now (stores .exit))
+        ≡ made session 114 (exec (state (session .console) (now (screen .entry)) (now (stores .entry))) (on pane (calls.run budget))) ⌝ }
 {
     replied(
         session,
@@ -57,7 +60,8 @@ fn run(screen: &mut [u8], stores: &mut [u8], session: Session, pane: u32, budget
 
 // Look.
 fn look(screen: &[u8], stores: &[u8], session: Session, pane: u32) -> Step
-    ensures { λ r. ⌜ leaves r (now (screen .entry)) (now (stores .entry)) ≡ made session 108 (exec (state (session .console) (now (screen .entry)) (now (stores .entry))) (on pane calls.look)) ⌝ }
+    ensures { λ r. ⌜ leaves r (now (screen .entry)) (now (stores .entry))
+        ≡ made session 108 (exec (state (session .console) (now (screen .entry)) (now (stores .entry))) (on pane calls.look)) ⌝ }
 {
     replied(
         session,
@@ -68,7 +72,8 @@ fn look(screen: &[u8], stores: &[u8], session: Session, pane: u32) -> Step
 
 // Pixel.
 fn pixel(screen: &[u8], stores: &[u8], session: Session, pane: u32, x: u32, y: u32) -> Step
-    ensures { λ r. ⌜ leaves r (now (screen .entry)) (now (stores .entry)) ≡ made session 120 (exec (state (session .console) (now (screen .entry)) (now (stores .entry))) (on pane (calls.pixel x y))) ⌝ }
+    ensures { λ r. ⌜ leaves r (now (screen .entry)) (now (stores .entry))
+        ≡ made session 120 (exec (state (session .console) (now (screen .entry)) (now (stores .entry))) (on pane (calls.pixel x y))) ⌝ }
 {
     replied(
         session,
@@ -79,7 +84,8 @@ fn pixel(screen: &[u8], stores: &[u8], session: Session, pane: u32, x: u32, y: u
 
 // Peek.
 fn peek(screen: &[u8], stores: &[u8], session: Session, pane: u32, address: u32) -> Step
-    ensures { λ r. ⌜ leaves r (now (screen .entry)) (now (stores .entry)) ≡ made session 107 (exec (state (session .console) (now (screen .entry)) (now (stores .entry))) (on pane (calls.peek address))) ⌝ }
+    ensures { λ r. ⌜ leaves r (now (screen .entry)) (now (stores .entry))
+        ≡ made session 107 (exec (state (session .console) (now (screen .entry)) (now (stores .entry))) (on pane (calls.peek address))) ⌝ }
 {
     replied(
         session,
@@ -90,7 +96,8 @@ fn peek(screen: &[u8], stores: &[u8], session: Session, pane: u32, address: u32)
 
 // Clear.
 fn clear(screen: &[u8], stores: &[u8], session: Session, pane: u32) -> Step
-    ensures { λ r. ⌜ leaves r (now (screen .entry)) (now (stores .entry)) ≡ made session 99 (exec (state (session .console) (now (screen .entry)) (now (stores .entry))) (on pane calls.clear)) ⌝ }
+    ensures { λ r. ⌜ leaves r (now (screen .entry)) (now (stores .entry))
+        ≡ made session 99 (exec (state (session .console) (now (screen .entry)) (now (stores .entry))) (on pane calls.clear)) ⌝ }
 {
     replied(
         session,
@@ -136,7 +143,8 @@ pub fn obey(
     session: Session,
 ) -> Step
     requires { ⌜ session .opened ≡ true ⌝ }
-    ensures { λ r. ⌜ leaves r (now (screen .exit)) (now (stores .exit)) ≡ obeyed (meant said (now (buffer .entry))) (desk session (now (screen .entry)) (now (stores .entry))) ⌝ }
+    ensures { λ r. ⌜ leaves r (now (screen .exit)) (now (stores .exit))
+        ≡ obeyed (meant said (now (buffer .entry))) (desk session (now (screen .entry)) (now (stores .entry))) ⌝ }
 {
     let n = counted(session.screen as usize, screen);
     let m = counted(session.stores as usize, stores);

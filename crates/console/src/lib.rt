@@ -52,7 +52,8 @@ pub fn run(
     number: u32,
     budget: u32,
 ) -> Answered
-    ensures { λ r. ⌜ answer r (now (screen .exit)) (now (stores .exit)) ≡ exec (state console (now (screen .entry)) (now (stores .entry))) (on number (calls.run budget)) ⌝ }
+    ensures { λ r. ⌜ answer r (now (screen .exit)) (now (stores .exit))
+        ≡ exec (state console (now (screen .entry)) (now (stores .entry))) (on number (calls.run budget)) ⌝ }
 {
     let first = call_refusal(screen.len(), stores.len(), console, number);
     if first != 0 {

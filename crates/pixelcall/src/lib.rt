@@ -59,7 +59,8 @@ pub fn pixel(
     x: u32,
     y: u32,
 ) -> Answered
-    ensures { λ r. ⌜ answer r (now (screen .entry)) (now (stores .entry)) ≡ exec (state console (now (screen .entry)) (now (stores .entry))) (on number (calls.pixel x y)) ⌝ }
+    ensures { λ r. ⌜ answer r (now (screen .entry)) (now (stores .entry))
+        ≡ exec (state console (now (screen .entry)) (now (stores .entry))) (on number (calls.pixel x y)) ⌝ }
 {
     let first = call_refusal(screen.len(), stores.len(), console, number);
     if first != 0 {

@@ -13,7 +13,8 @@ ghost use Rattle.answers.specs.Answers.{state, answer};
 
 // Makes the record of the pane with a number fresh; store and pixels are kept; no refusal of its own.
 pub fn clear(screen: &[u8], stores: &[u8], console: Console, number: u32) -> Answered
-    ensures { λ r. ⌜ answer r (now (screen .entry)) (now (stores .entry)) ≡ exec (state console (now (screen .entry)) (now (stores .entry))) (on number calls.clear) ⌝ }
+    ensures { λ r. ⌜ answer r (now (screen .entry)) (now (stores .entry))
+        ≡ exec (state console (now (screen .entry)) (now (stores .entry))) (on number calls.clear) ⌝ }
 {
     let first = call_refusal(screen.len(), stores.len(), console, number);
     if first != 0 {

@@ -31,7 +31,8 @@ fn shown(pane: Pane) -> Reply
 
 // Shows the record of the pane with a number; changes nothing, and has no refusal of its own.
 pub fn look(screen: &[u8], stores: &[u8], console: Console, number: u32) -> Answered
-    ensures { λ r. ⌜ answer r (now (screen .entry)) (now (stores .entry)) ≡ exec (state console (now (screen .entry)) (now (stores .entry))) (on number calls.look) ⌝ }
+    ensures { λ r. ⌜ answer r (now (screen .entry)) (now (stores .entry))
+        ≡ exec (state console (now (screen .entry)) (now (stores .entry))) (on number calls.look) ⌝ }
 {
     let first = call_refusal(screen.len(), stores.len(), console, number);
     if first != 0 {

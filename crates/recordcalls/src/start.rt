@@ -53,7 +53,8 @@ fn started(pane: Pane, address: u32) -> Pane
 
 // Sets the pane with a number to run from the address on; refused 3 if that is odd, 2 if it is not below the store's length.
 pub fn start(screen: &[u8], stores: &[u8], console: Console, number: u32, address: u32) -> Answered
-    ensures { λ r. ⌜ answer r (now (screen .entry)) (now (stores .entry)) ≡ exec (state console (now (screen .entry)) (now (stores .entry))) (on number (calls.start address)) ⌝ }
+    ensures { λ r. ⌜ answer r (now (screen .entry)) (now (stores .entry))
+        ≡ exec (state console (now (screen .entry)) (now (stores .entry))) (on number (calls.start address)) ⌝ }
 {
     let first = call_refusal(screen.len(), stores.len(), console, number);
     if first != 0 {

@@ -21,7 +21,8 @@ const MOST_SCRIPT: usize = 8192;
 // for is left out: nothing, where it has `room`.
 pub fn answer(language: Language, script: &[u8], out: &mut [u8]) -> usize
     ensures { λ r. ⌜ Counts r (now (out .exit)) ⌝ }
-    ensures { λ r. ⌜ take r (now (out .exit)) ≡ take (length (now (out .entry))) (answered language (now (script .entry))) ⌝ }
+    ensures { λ r. ⌜ take r (now (out .exit))
+        ≡ take (length (now (out .entry))) (answered language (now (script .entry))) ⌝ }
     ensures { λ r. ⌜ (room ≤ length (now (out .entry)) → take r (now (out .exit)) ≡ answered language (now (script .entry))) ⌝ }
 {
     if script.len() > MOST_SCRIPT {
@@ -78,7 +79,8 @@ fn lines(
     requires { ⌜ length (now script) ≤ 8192 ⌝ }
     requires { ⌜ 4096 ≤ length (now scratch) ⌝ }
     ensures { λ r. ⌜ Counts r (now (out .exit)) ⌝ }
-    ensures { λ r. ⌜ take r (now (out .exit)) ≡ take (length (now (out .entry))) (printed language (linesOf (now (script .entry))) (desk begun (now (screen .entry)) (now (stores .entry)))) ⌝ }
+    ensures { λ r. ⌜ take r (now (out .exit))
+        ≡ take (length (now (out .entry))) (printed language (linesOf (now (script .entry))) (desk begun (now (screen .entry)) (now (stores .entry)))) ⌝ }
 {
     let mut session = session::begun();
     let mut written = 0;
@@ -113,7 +115,8 @@ fn one_line(
 ) -> Step
     requires { ⌜ length (now line) ≤ 8192 ⌝ }
     requires { ⌜ 4096 ≤ length (now scratch) ⌝ }
-    ensures { λ r. ⌜ leaves r (now (screen .exit)) (now (stores .exit)) ≡ obeyed (lineOf language (now (line .entry))) (desk session (now (screen .entry)) (now (stores .entry))) ⌝ }
+    ensures { λ r. ⌜ leaves r (now (screen .exit)) (now (stores .exit))
+        ≡ obeyed (lineOf language (now (line .entry))) (desk session (now (screen .entry)) (now (stores .entry))) ⌝ }
 {
     let said = parser::parse(language, line, scratch);
     obey(said, screen, stores, scratch, session)
@@ -127,7 +130,8 @@ fn obey(
     scratch: &[u8],
     session: Session,
 ) -> Step
-    ensures { λ r. ⌜ leaves r (now (screen .exit)) (now (stores .exit)) ≡ obeyed (meant said (now (scratch .entry))) (desk session (now (screen .entry)) (now (stores .entry))) ⌝ }
+    ensures { λ r. ⌜ leaves r (now (screen .exit)) (now (stores .exit))
+        ≡ obeyed (meant said (now (scratch .entry))) (desk session (now (screen .entry)) (now (stores .entry))) ⌝ }
 {
     if session.opened {
         return calling::obey(said, screen, stores, scratch, session);

@@ -66,7 +66,8 @@ pub fn taken(session: Session) -> Step
 
 // A call that was made: the record after it, and its reply under the line's letter.
 pub fn replied(session: Session, letter: u8, answered: answers::Answered) -> Step
-    ensures { λ r. ⌜ r ≡ stepped (withConsole session (answered .console)) (outcome.Replied letter (answered .reply)) ⌝ }
+    ensures { λ r. ⌜ r
+        ≡ stepped (withConsole session (answered .console)) (outcome.Replied letter (answered .reply)) ⌝ }
 {
     let console = answered.console;
     let reply = answered.reply;

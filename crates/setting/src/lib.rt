@@ -103,7 +103,8 @@ fn added(session: Session, row: Row) -> Step
 
 // The session with set-up's answer: opened if it was accepted.
 fn opened(session: Session, answered: answers::Answered) -> Step
-    ensures { λ r. ⌜ r ≡ stepped (withConsole (afterSetUp session (response (answered .reply))) (answered .console)) (outcome.Replied 111 (answered .reply)) ⌝ }
+    ensures { λ r. ⌜ r
+        ≡ stepped (withConsole (afterSetUp session (response (answered .reply))) (answered .console)) (outcome.Replied 111 (answered .reply)) ⌝ }
 {
     let reply = answered.reply;
     match reply {
@@ -122,7 +123,8 @@ fn opened(session: Session, answered: answers::Answered) -> Step
 // The line `o`: set-up of what the lines before it said.
 fn open(screen: &[u8], stores: &[u8], session: Session) -> Step
     requires { ⌜ session .opened ≡ false ⌝ }
-    ensures { λ r. ⌜ leaves r (now (screen .entry)) (now (stores .entry)) ≡ obeyed line.opening (desk session (now (screen .entry)) (now (stores .entry))) ⌝ }
+    ensures { λ r. ⌜ leaves r (now (screen .entry)) (now (stores .entry))
+        ≡ obeyed line.opening (desk session (now (screen .entry)) (now (stores .entry))) ⌝ }
 {
     if !session.sized {
         return malformed(session);

@@ -12,7 +12,8 @@ ghost use Rattle.answers.specs.Answers.{state, answer};
 // Accepts geometry and table with eight fresh pane records, whatever the record lent has for them; refused 6 to 11. Both
 // buffers keep every bit.
 pub fn set_up(screen: &[u8], stores: &[u8], console: Console) -> Answered
-    ensures { λ r. ⌜ answer r (now (screen .entry)) (now (stores .entry)) ≡ setUp (state console (now (screen .entry)) (now (stores .entry))) ⌝ }
+    ensures { λ r. ⌜ answer r (now (screen .entry)) (now (stores .entry))
+        ≡ setUp (state console (now (screen .entry)) (now (stores .entry))) ⌝ }
 {
     let first = setup_refusal(screen.len(), stores.len(), console);
     if first != 0 {

@@ -34,7 +34,8 @@ fn byte_at(store: &[u8], address: usize) -> u8
 // Answers the byte at an address of the store of the pane with a number; changes nothing; refused 2 past the store's end.
 // The pane's own part of the stores is lent on, and nothing else of it.
 pub fn peek(screen: &[u8], stores: &[u8], console: Console, number: u32, address: u32) -> Answered
-    ensures { λ r. ⌜ answer r (now (screen .entry)) (now (stores .entry)) ≡ exec (state console (now (screen .entry)) (now (stores .entry))) (on number (calls.peek address)) ⌝ }
+    ensures { λ r. ⌜ answer r (now (screen .entry)) (now (stores .entry))
+        ≡ exec (state console (now (screen .entry)) (now (stores .entry))) (on number (calls.peek address)) ⌝ }
 {
     let first = call_refusal(screen.len(), stores.len(), console, number);
     if first != 0 {

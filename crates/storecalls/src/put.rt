@@ -48,7 +48,8 @@ pub fn put(
     address: u32,
     bytes: &[u8],
 ) -> Answered
-    ensures { λ r. ⌜ answer r (now (screen .entry)) (now (stores .exit)) ≡ exec (state console (now (screen .entry)) (now (stores .entry))) (on number (calls.put address (now (bytes .entry)))) ⌝ }
+    ensures { λ r. ⌜ answer r (now (screen .entry)) (now (stores .exit))
+        ≡ exec (state console (now (screen .entry)) (now (stores .entry))) (on number (calls.put address (now (bytes .entry)))) ⌝ }
 {
     let first = call_refusal(screen.len(), stores.len(), console, number);
     if first != 0 {
