@@ -32,21 +32,21 @@ const FAULT_NO_BITMAP: u8 = 23;
 // "24 outside it": a clip that the bitmap does not hold.
 const FAULT_CLIP: u8 = 24;
 
-// "DEF_CHAR_SET: 25 odd base"; "25 an array, string, offset word or descriptor at an odd address, outside the store or
+// "DEF_CHAR_SET: 25 odd base"; "25 an array, string, offset word or descriptor at an odd address .., outside the store or
 // touching the active bitmap".
 const FAULT_DATA: u8 = 25;
 
-// "CALL: 26 eight kept."
+// "CALL: 26 eight kept".
 const FAULT_CALL: u8 = 26;
 
-// "RETURN: 27 none kept."
+// "RETURN: 27 none kept".
 const FAULT_RETURN: u8 = 27;
 
-// "CHAR 28 no font."
+// "CHAR 28 no font".
 const FAULT_NO_FONT: u8 = 28;
 
 // "29 a copy's dx or dy negative, its source outside its bitmap, or BIT_BLT_M's source sharing a byte with the active
-// bitmap."
+// bitmap".
 const FAULT_COPY: u8 = 29;
 
 // ---- Commands that change the record alone

@@ -65,6 +65,7 @@ effectOf g r p look store next (command.DefCharOrient orientation) =
 effectOf g r p look store next (command.AbsMov x y) = becomes (withPointer (withPosition p (record { x = x; y = y })) next)
 effectOf g r p look store next (command.RelMov dx dy) =
     becomes (withPointer (withPosition p (moved (p .position) (coord dx) (coord dy))) next)
+-- "POINT moves by (dx,dy) and draws one pixel"
 effectOf g r p look store next (command.Point dx dy) = draws (pointAt (p .pen) (moved (p .position) (coord dx) (coord dy)))
 effectOf g r p look store next (command.Line dx dy) = draws (line (p .pen) (p .position) (coord dx) (coord dy))
 effectOf g r p look store next (command.Rect dx dy) = draws (rectangle (p .pen) (p .position) (coord dx) (coord dy))

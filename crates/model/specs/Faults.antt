@@ -24,7 +24,8 @@ noBitmap bitmap.Absent = true
 noBitmap (bitmap.Pane xmax ymax b) = false
 noBitmap (bitmap.Store a xmax ymax b) = false
 
--- some value of a clip is above these; a negative coordinate, read as its pattern, is above 7FFF hex and so above any xmax or ymax
+-- some value of a clip is above these; a negative coordinate, read as its pattern, is above 7FFF hex, and so above the xmax and ymax of a bitmap
+-- that keeps DEF_BITMAP's rule
 abbrev pub clipBeyond : ℕ → ℕ → Clip → Bool
 clipBeyond xmax ymax c = ltb xmax (c .xmin) || (ltb ymax (c .ymin) || (ltb xmax (c .xmax) || ltb ymax (c .ymax)))
 

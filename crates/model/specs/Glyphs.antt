@@ -20,11 +20,11 @@ baseOf font.Absent = 0
 baseOf (font.Word a) = a
 baseOf (font.Byte a) = a
 
--- the offset word of code c: "in byte mode code c names the word at base + 2c"
+-- the offset word of code c: "in byte mode (0B hex) code c names the word at base + 2c"
 abbrev pub offsetWord : ℕ → ℕ → ℕ
 offsetWord base c = base + 2 * c
 
--- the selector of character k of a string: "in word mode a selector v"; in byte mode the word of its code
+-- the selector of character k of a string: "in word mode (0A hex) a selector v"; in byte mode the word of its code
 unfoldable pub selector : Font → List ℕ → ℕ → ℕ → ℕ
 selector font.Absent store string k = 0
 selector (font.Word base) store string k = wordAt store (string + 2 * k)

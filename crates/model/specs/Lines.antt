@@ -45,7 +45,7 @@ line pen p dx dy = drawing (lineDots pen (place p) dx dy) (moved p dx dy)
 
 -- ## POINT
 
--- "POINT moves by (dx,dy) and draws one pixel, pattern index 0"
+-- POINT at the position it has moved to: it "draws one pixel, pattern index 0"
 unfoldable pub pointAt : Pen → Point → Drawing
 pointAt pen p = drawing (dot (place p) (patternSource pen 0) ∷ []) p
 
@@ -84,7 +84,7 @@ unfoldable pub visited : Place → List Place → Bool
 visited p [] = false
 visited p (q ∷ qs) = samePlace p q || visited p qs
 
--- "each pixel once; a pixel already drawn is passed over": the places not among those seen, each the first time
+-- "each pixel once, ..; a pixel already drawn is passed over": the places not among those seen, each the first time
 unfoldable pub once : List Place → List Place → List Place
 once seen [] = []
 once seen (p ∷ ps) = keep (cond (visited p seen) false true) p (once (p ∷ seen) ps)
