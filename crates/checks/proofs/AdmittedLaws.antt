@@ -9,12 +9,11 @@ use borrow.Author.Tests.{ltb-false, leb-false, eqb-false}
 use Rattle.model.specs.declared.Geometry.{Geometry}
 use Rattle.model.specs.declared.Row.{Row}
 use Rattle.model.specs.Ranges.{anyBelow}
-use Rattle.model.specs.Bitmaps.{paneSurface}
+use Rattle.model.specs.Bitmaps.{paneSurface, Fits}
 use Rattle.model.specs.Setup.{rowAt, geometryBad, screenBytes, rectangleBad, storeBad, checks, mostStore, paneBad}
 use Rattle.model.specs.Calls.{State, rowOf, recordOf, storeOf, setupRefusal, callRefusal}
 use Rattle.model.proofs.Decisions.{either-false, cond-none, orElse-none}
 use Rattle.model.proofs.SetupLaws.{any-below}
-use Rattle.model.proofs.PixelLaws.{Fits}
 use Rattle.model.proofs.PartLaws.{length-part}
 use Rattle.tables.specs.Sizes.{Sized}
 use Rattle.checks.specs.Admitted.{Admitted}

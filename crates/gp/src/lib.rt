@@ -2,8 +2,8 @@
 // budget is left.
 ghost use mathlib.Core.Path.{_≡_};
 ghost use lib.ListN.{length};
+ghost use Rattle.model.specs.Commands.{Addressed};
 ghost use Rattle.model.specs.Runs.{runs};
-ghost use Rattle.decoder.proofs.DecodeLaws.{Addressed};
 ghost use Rattle.gp.specs.Obeying.{obeyed, stoppedOf};
 ghost use Rattle.drawing.specs.Stepping.{Sound, left, leftOf};
 use model::Command;
