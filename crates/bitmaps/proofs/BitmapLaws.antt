@@ -14,10 +14,9 @@ use Rattle.model.specs.declared.Bitmap.{Bitmap}
 use Rattle.model.specs.declared.Bitmap.the-variants as bitmap
 use Rattle.model.specs.declared.Clip.{Clip}
 use Rattle.model.specs.declared.Surface.{Surface}
-use Rattle.model.specs.Bitmaps.{isDepth, rowWords, bitmapBytes, bitmapOf, paneAddress, paneSurface, storeSurface, surfaceOf, paneBitmapBad, storeBitmapBad, ruleBroken}
+use Rattle.model.specs.Bitmaps.{isDepth, rowWords, bitmapBytes, bitmapOf, paneAddress, paneSurface, storeSurface, surfaceOf, paneBitmapBad, storeBitmapBad, ruleBroken, Fits}
 use Rattle.model.specs.Faults.{noBitmap, clipBeyond, clipOutside}
 use Rattle.model.proofs.Decisions.{holds, both-true, either-false, cond-ind}
-use Rattle.model.proofs.PixelLaws.{Fits}
 use Rattle.bitmaps.specs.Places.{Placed}
 use Rattle.bitmaps.proofs.DepthLaws.{Known, isDepth-known, even-of}
 

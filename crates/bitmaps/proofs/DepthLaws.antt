@@ -5,8 +5,8 @@ use Prim.Native.Nat.{ℕ, _%_, _≤_}
 use native.Mathlib.Omega.{arith}
 use lib.Dec.{eqb}
 use borrow.Author.Tests.{eqb-false}
-use Rattle.model.specs.Bitmaps.{isDepth}
-use Rattle.model.proofs.PlaceLaws.{Depth, depth-bounds}
+use Rattle.model.specs.Bitmaps.{isDepth, Depth}
+use Rattle.model.proofs.PlaceLaws.{depth-bounds}
 use Rattle.model.proofs.SetupLaws.{depth-of}
 
 -- not odd is even

@@ -11,12 +11,11 @@ use Rattle.model.specs.declared.Geometry.{Geometry}
 use Rattle.model.specs.declared.Row.{Row}
 use Rattle.model.specs.declared.Console.{Console}
 use Rattle.model.specs.Ranges.{anyBelow}
-use Rattle.model.specs.Bitmaps.{paneSurface}
+use Rattle.model.specs.Bitmaps.{paneSurface, Fits}
 use Rattle.model.specs.Setup.{rowAt, paneAt, geometryBad, screenBytes, rectangleBad, storeBad, checks, mostStore, paneBad}
 use Rattle.model.specs.Calls.{callChecks}
 use Rattle.model.proofs.Decisions.{either-false, cond-none, orElse-none}
 use Rattle.model.proofs.SetupLaws.{any-below}
-use Rattle.model.proofs.PixelLaws.{Fits}
 use Rattle.tables.specs.Sizes.{Sized}
 use Rattle.checks.specs.Admitted.{Admitted}
 use Rattle.bitmaps.proofs.DepthLaws.{even-of}

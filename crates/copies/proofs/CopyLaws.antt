@@ -7,9 +7,8 @@ use lib.ListN.{length}
 use Rattle.model.specs.declared.Surface.{Surface}
 use Rattle.model.specs.declared.Point.{Point}
 use Rattle.model.specs.Coordinates.{place}
-use Rattle.model.specs.Bitmaps.{placeBit, pixels}
+use Rattle.model.specs.Bitmaps.{placeBit, pixels, Fits}
 use Rattle.model.specs.Copies.{copyDots}
-use Rattle.model.proofs.PixelLaws.{Fits}
 use Rattle.draw.specs.declared.Target.{Target}
 use Rattle.draw.specs.declared.Heading.{Heading}
 use Rattle.draw.specs.Canvas.{Canvas, paintedAll}

@@ -14,11 +14,10 @@ use Rattle.model.specs.declared.Surface.{Surface}
 use Rattle.model.specs.declared.Source.the-variants.{Copied}
 use Rattle.model.specs.Coordinates.{at}
 use Rattle.model.specs.Words.{bit, num, fieldAt}
-use Rattle.model.specs.Bitmaps.{placeBit, inside, pixels}
+use Rattle.model.specs.Bitmaps.{placeBit, inside, pixels, Fits}
 use Rattle.model.specs.Pixels.{Change, change}
 use Rattle.model.specs.Dots.{Dot, dot, visible, changeOf}
 use Rattle.model.proofs.Decisions.{cond-ind}
-use Rattle.model.proofs.PixelLaws.{Fits}
 use Rattle.raster.proofs.ChangeLaws.{change-comm, pixels-kept}
 use Rattle.draw.specs.declared.Target.{Target}
 use Rattle.draw.specs.declared.Heading.{Heading}

@@ -18,13 +18,12 @@ use Rattle.model.specs.declared.Bitmap.{Bitmap}
 use Rattle.model.specs.declared.Bitmap.the-variants as bitmap
 use Rattle.model.specs.declared.Point.{Point}
 use Rattle.model.specs.Coordinates.{coord, index, negative, moved, place}
-use Rattle.model.specs.Bitmaps.{rowWords, wordOf, gridBit, placeBit, pixels, bitmapBytes, bitmapOf, paneAddress, shareSpan, touches, surfaceOf, paneSurface, storeSurface, ruleBroken}
+use Rattle.model.specs.Bitmaps.{rowWords, wordOf, gridBit, placeBit, pixels, bitmapBytes, bitmapOf, paneAddress, shareSpan, touches, surfaceOf, paneSurface, storeSurface, ruleBroken, Depth}
 use Rattle.model.specs.Setup.{screenBytes}
 use Rattle.model.specs.Dots.{drawing}
 use Rattle.model.specs.Copies.{Block, seen, copyDots, copy, blockBad, blockTouches, sharing}
 use Rattle.model.specs.Faults.{block, noBitmap, copyFault}
 use Rattle.model.proofs.Decisions.{split, holds, either-false, cond-ind, cond-none}
-use Rattle.model.proofs.PlaceLaws.{Depth}
 use Rattle.model.proofs.SetupLaws.{any-below}
 use Rattle.coordinates.proofs.SignedLaws.{coord-low, coord-high}
 use Rattle.model.proofs.PlaceLaws.{depth-bounds}

@@ -11,10 +11,9 @@ use Rattle.model.specs.declared.Clip.{Clip}
 use Rattle.model.specs.declared.Point.{Point}
 use Rattle.model.specs.declared.Source.the-variants.{Copied}
 use Rattle.model.specs.Coordinates.{at, between, coord}
-use Rattle.model.specs.Bitmaps.{placeBit, pixels}
+use Rattle.model.specs.Bitmaps.{placeBit, pixels, Depth}
 use Rattle.model.specs.Dots.{dot}
 use Rattle.model.specs.Copies.{Block}
-use Rattle.model.proofs.PlaceLaws.{Depth}
 use Rattle.draw.specs.Canvas.{Canvas, painted, rowsEnd}
 use Rattle.draw.specs.Targets.{Ready, InClip}
 use Rattle.draw.specs.declared.Target.{Target}

@@ -7,8 +7,8 @@ use mathlib.Core.List.{List}
 use lib.Dec.{eqb, ltb}
 use lib.ListN.{getD}
 use borrow.Author.Tests.{eqb-false, ltb-false}
-use Rattle.model.specs.Words.{wordAt, address}
-use Rattle.model.specs.Commands.{shapeOf, parameter, commandOf, fetch, decode}
+use Rattle.model.specs.Words.{wordAt, address, addressEnd}
+use Rattle.model.specs.Commands.{Addressed, linkTo, callTo, bitmapAt, fontAt, pairsAt, triplesAt, sourceAt, stringAt, shapeOf, parameter, commandOf, fetch, decode}
 use Rattle.model.specs.declared.Opcode.{Opcode}
 use Rattle.model.specs.declared.Opcode.the-variants as opcode
 use Rattle.model.specs.declared.Shape.{Shape}
@@ -55,62 +55,20 @@ decode-do len s at k next e = split (eqb (at % 2) 1 || ltb len (at + 2))
 
 -- ## Addresses
 
--- the addresses that a command holds have 22 bits
-abbrev pub Addressed : Command → Type 0
-Addressed (command.Link a) = a < 0x400000
-Addressed command.Nop = Unit {0}
-Addressed (command.DefTexture pattern t) = Unit {0}
-Addressed (command.DefCharSet a t) = a < 0x400000
-Addressed (command.Call a) = a < 0x400000
-Addressed command.Return = Unit {0}
-Addressed (command.DefBitmap a xmax ymax b) = a < 0x400000
-Addressed (command.DefColors fore back) = Unit {0}
-Addressed (command.DefLogicalOp mask code) = Unit {0}
-Addressed command.EnterPick = Unit {0}
-Addressed command.ExitPick = Unit {0}
-Addressed (command.DefClipRect xmin ymin xmax ymax) = Unit {0}
-Addressed (command.DefSpace spacing) = Unit {0}
-Addressed (command.DefCharOrient orientation) = Unit {0}
-Addressed (command.AbsMov x y) = Unit {0}
-Addressed (command.RelMov dx dy) = Unit {0}
-Addressed (command.Point dx dy) = Unit {0}
-Addressed (command.Line dx dy) = Unit {0}
-Addressed (command.Rect dx dy) = Unit {0}
-Addressed (command.BitBlt x y dx dy) = Unit {0}
-Addressed (command.Polyline a n) = a < 0x400000
-Addressed (command.Char a n t) = a < 0x400000
-Addressed (command.BitBltM a xmax ymax x y dx dy) = a < 0x400000
-Addressed (command.ScanLines a n) = a < 0x400000
-
-address-lt : (low high : ℕ) → low < 65536 → address low high < 0x400000
+address-lt : (low high : ℕ) → low < 65536 → address low high < addressEnd
 address-lt low high h = omega arith
 
+-- the address that a command holds is made of its first two words
 command-addressed : (op : Opcode) (w : ℕ → ℕ) → w 0 < 65536 → Addressed (commandOf op w)
 unfolding commandOf
-command-addressed opcode.Link w h = address-lt (w 0) (w 1) h
-command-addressed opcode.Nop w h = tt
-command-addressed (opcode.DefTexture t) w h = tt
-command-addressed (opcode.DefCharSet t) w h = address-lt (w 0) (w 1) h
-command-addressed opcode.Call w h = address-lt (w 0) (w 1) h
-command-addressed opcode.Return w h = tt
-command-addressed opcode.DefBitmap w h = address-lt (w 0) (w 1) h
-command-addressed opcode.DefColors w h = tt
-command-addressed opcode.DefLogicalOp w h = tt
-command-addressed opcode.EnterPick w h = tt
-command-addressed opcode.ExitPick w h = tt
-command-addressed opcode.DefClipRect w h = tt
-command-addressed opcode.DefSpace w h = tt
-command-addressed opcode.DefCharOrient w h = tt
-command-addressed opcode.AbsMov w h = tt
-command-addressed opcode.RelMov w h = tt
-command-addressed opcode.Point w h = tt
-command-addressed opcode.Line w h = tt
-command-addressed opcode.Rect w h = tt
-command-addressed opcode.BitBlt w h = tt
-command-addressed opcode.Polyline w h = address-lt (w 0) (w 1) h
-command-addressed (opcode.Char t) w h = address-lt (w 0) (w 1) h
-command-addressed opcode.BitBltM w h = address-lt (w 0) (w 1) h
-command-addressed opcode.ScanLines w h = address-lt (w 0) (w 1) h
+command-addressed opcode.Link w h a linkTo = address-lt (w 0) (w 1) h
+command-addressed (opcode.DefCharSet t) w h a fontAt = address-lt (w 0) (w 1) h
+command-addressed opcode.Call w h a callTo = address-lt (w 0) (w 1) h
+command-addressed opcode.DefBitmap w h a bitmapAt = address-lt (w 0) (w 1) h
+command-addressed opcode.Polyline w h a pairsAt = address-lt (w 0) (w 1) h
+command-addressed (opcode.Char t) w h a stringAt = address-lt (w 0) (w 1) h
+command-addressed opcode.BitBltM w h a sourceAt = address-lt (w 0) (w 1) h
+command-addressed opcode.ScanLines w h a triplesAt = address-lt (w 0) (w 1) h
 
 word-lt : (s : List ℕ) (at : ℕ) → ((k : ℕ) → getD s k 0 < 256) → wordAt s at < 65536
 word-lt s at bytes = omega (arith, bytes at, bytes (at + 1))

@@ -9,11 +9,11 @@ use lib.ListN.{getD}
 use lib.Seq.{getD-set-other}
 use Rattle.model.specs.declared.Surface.{Surface}
 use Rattle.model.specs.Words.{wordAt, putField}
-use Rattle.model.specs.Bitmaps.{gridBit, placeBit, inside}
+use Rattle.model.specs.Bitmaps.{gridBit, placeBit, inside, Depth}
 use Rattle.model.specs.Pixels.{Change, change}
 use Rattle.model.specs.Dots.{Dot, visible}
 use Rattle.model.proofs.Decisions.{cond-ind}
-use Rattle.model.proofs.PlaceLaws.{Depth, in-rows}
+use Rattle.model.proofs.PlaceLaws.{in-rows}
 use Rattle.model.proofs.PixelLaws.{inside-true}
 use Rattle.draw.specs.declared.Target.{Target}
 use Rattle.draw.specs.Canvas.{Canvas, changedUnless, hit, painted, paintedAll, rowsEnd, Clear, Reach}

@@ -2,7 +2,7 @@
 use mathlib.Core.Path.{_≡_}
 use mathlib.Core.Bool.{Bool, true, false, cond}
 use Prim.Native.Nat.{ℕ, _+_, _*_, _≤_, _<_}
-use Rattle.model.specs.Bitmaps.{placeShift, surfaceOf}
+use Rattle.model.specs.Bitmaps.{placeShift, surfaceOf, Depth}
 use Rattle.model.specs.declared.Geometry.{Geometry}
 use Rattle.model.specs.declared.Row.{Row}
 use Rattle.model.specs.declared.Pane.{Pane}
@@ -10,7 +10,6 @@ use Rattle.model.specs.declared.Bitmap.{Bitmap}
 use Rattle.model.specs.declared.Bitmap.the-variants as bitmap
 use Rattle.model.specs.Pixels.{Change, blend}
 use Rattle.model.specs.declared.Source.{Source}
-use Rattle.model.proofs.PlaceLaws.{Depth}
 use Rattle.raster.specs.Operations.{truthOf}
 use Rattle.draw.specs.declared.Target.{Target}
 use Rattle.draw.specs.Canvas.{rowsEnd}

@@ -11,14 +11,13 @@ use Rattle.model.specs.declared.Pane.{Pane}
 use Rattle.model.specs.declared.Bitmap.{Bitmap}
 use Rattle.model.specs.declared.Bitmap.the-variants as bitmap
 use Rattle.model.specs.declared.Surface.{Surface}
-use Rattle.model.specs.Bitmaps.{surfaceOf, paneSurface, storeSurface, ruleBroken, pixels}
+use Rattle.model.specs.Bitmaps.{surfaceOf, paneSurface, storeSurface, ruleBroken, pixels, Fits}
 use Rattle.model.specs.Dots.{Drawing}
 use Rattle.model.specs.Faults.{noBitmap}
 use Rattle.model.specs.declared.Command.{Command}
 use Rattle.model.specs.Effects.{Effect, draws, effectOf}
 use Rattle.model.specs.Runs.{carried}
 use Rattle.model.specs.Steps.{drewPane, planOf}
-use Rattle.model.proofs.PixelLaws.{Fits}
 use Rattle.bitmaps.specs.Places.{Placed}
 use Rattle.bitmaps.proofs.BitmapLaws.{ruleBroken-store, bitmap-fits-screen, bitmap-fits-store, clip-within}
 use Rattle.draw.specs.Canvas.{Canvas, canvas, paintedAll}

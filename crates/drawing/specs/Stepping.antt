@@ -12,7 +12,6 @@ use Rattle.model.specs.Effects.{effectOf}
 use Rattle.model.specs.Faults.{faultOf}
 use Rattle.model.specs.Runs.{Finish, carried}
 use Rattle.model.specs.Steps.{planOf}
-use Rattle.decoder.proofs.DecodeLaws.{Addressed}
 use Rattle.bitmaps.specs.Places.{Placed}
 use Rattle.checks.specs.Good.{Good}
 
@@ -21,10 +20,9 @@ pub record Sound (g : Geometry) (r : Row) (p : Pane) (screen store : ℕ) : Type
   pub placed : Placed g r screen store
   pub good : Good g r p
 
--- .. and of a command that is free of faults, its addresses having 22 bits
+-- .. and of a command that is free of faults
 pub record Allowed (g : Geometry) (r : Row) (p : Pane) (screen : ℕ) (store : List ℕ) (c : Command) : Type 0 where
   pub sound : Sound g r p screen (length store)
-  pub addressed : Addressed c
   pub clear : faultOf g r p store c ≡ 0
 
 -- commands done, and the record, the screen and the store that are left

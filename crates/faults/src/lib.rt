@@ -16,10 +16,11 @@ ghost use Prim.Native.Nat.{_%_, _≤_, _<_, _^_};
 ghost use lib.Dec.{eqb, leb};
 ghost use lib.ListN.{length};
 ghost use Rattle.model.specs.Numbers.{faultBitmap, faultNoBitmap, faultClip, faultData, faultCall, faultReturn, faultNoFont, faultCopy};
+ghost use Rattle.model.specs.Words.{addressEnd};
 ghost use Rattle.model.specs.Bitmaps.{surfaceOf, ruleBroken};
+ghost use Rattle.model.specs.Commands.{Addressed};
 ghost use Rattle.model.specs.Copies.{blockBad};
 ghost use Rattle.model.specs.Faults.{noBitmap, noFont, clipOutside, arrayBad, stringBad, descriptorsBad, block, copyFault, faultOf};
-ghost use Rattle.decoder.proofs.DecodeLaws.{Addressed};
 ghost use Rattle.strings.specs.Reading as reading;
 ghost use Rattle.faults.specs.Sound.{clipOf, sourceOf, Active, Sound};
 
@@ -104,7 +105,7 @@ fn clip_fault(active: Bitmap, xmin: u16, ymin: u16, xmax: u16, ymax: u16) -> u8
 
 // The fault of POLYLINE or SCAN_LINES, whose array has so many bytes.
 fn array_fault(r: Row, active: Bitmap, array: u32, size: usize) -> u8
-    requires { ⌜ (array < 0x400000) × (size < 2 ^ 32) ⌝ }
+    requires { ⌜ (array < addressEnd) × (size < 2 ^ 32) ⌝ }
     ensures { λ f. ⌜ f ≡ cond (noBitmap active) faultNoBitmap (cond (arrayBad r active array size) faultData 0) ⌝ }
 {
     let bad = bitmaps::array_bad(r, active, array as usize, size);

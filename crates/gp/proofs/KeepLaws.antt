@@ -19,10 +19,10 @@ use Rattle.model.specs.declared.Shape.the-variants.{Known, Unknown}
 use Rattle.model.specs.declared.Decoded.{Decoded}
 use Rattle.model.specs.declared.Decoded.the-variants.{Do, End, Fault}
 use Rattle.model.specs.Numbers.{statusRunning}
-use Rattle.model.specs.Words.{wordAt}
+use Rattle.model.specs.Words.{wordAt, addressEnd}
 use Rattle.model.specs.Bitmaps.{ruleBroken, bitmapOf, surfaceOf}
 use Rattle.model.specs.Record.{faulted}
-use Rattle.model.specs.Commands.{shapeOf, fetch, decode}
+use Rattle.model.specs.Commands.{Addressed, fontAt, shapeOf, fetch, decode}
 use Rattle.model.specs.Copies.{Block, blockBad, sharing}
 use Rattle.model.specs.Faults.{noBitmap, noFont, clipOutside, arrayBad, stringBad, descriptorsBad, block, sourceBitmap, copyFault, drawFault, faultOf}
 use Rattle.model.specs.Effects.{Effect, becomes, draws, fontOf, effectOf}
@@ -32,7 +32,7 @@ use Rattle.model.proofs.Decisions.{split, cond-ind, cond-none, cond-true, cond-
 use Rattle.checks.specs.Good.{Good}
 use Rattle.bitmaps.proofs.BitmapLaws.{whole-clip}
 use Rattle.checks.proofs.GoodLaws.{good-pointer, good-ended, good-faulted, good-position, good-bitmap, good-clip, good-colours, good-operation, good-pattern, good-spacing, good-orientation, good-font, good-flags, good-returns, good-baseBad}
-use Rattle.decoder.proofs.DecodeLaws.{Addressed, decode-addressed}
+use Rattle.decoder.proofs.DecodeLaws.{decode-addressed}
 
 -- ## Faults are 20 to 29
 
@@ -94,7 +94,7 @@ GoodEffect : Geometry → Row → Effect → Type 0
 GoodEffect g r (becomes q) = Good g r q
 GoodEffect g r (draws d) = Unit {0}
 
-good-fontOf : (t : Bool) (a : ℕ) → a % 2 ≡ 0 → a < 4194304 → fontBad (fontOf t a) ≡ false
+good-fontOf : (t : Bool) (a : ℕ) → a % 2 ≡ 0 → a < addressEnd → fontBad (fontOf t a) ≡ false
 good-fontOf true a e h = good-baseBad a (record { even = e; most = h })
 good-fontOf false a e h = good-baseBad a (record { even = e; most = h })
 
@@ -106,7 +106,7 @@ module _ (g : Geometry) (r : Row) (p : Pane) (good : Good g r p) (look : ℕ →
   effect-good (command.DefTexture pattern t) h e = good-pointer (good-pattern good pattern t) next
   effect-good (command.DefCharSet base t) h e =
       let o = eqb-false (base % 2) 1 (cond-none (eqb (base % 2) 1) 24 0 e .0) in
-      good-pointer (good-font good (fontOf t base) (good-fontOf t base (omega arith) h)) next
+      good-pointer (good-font good (fontOf t base) (good-fontOf t base (omega arith) (h base fontAt))) next
   effect-good (command.Call a) h e =
       let l = leb-false 8 (p .returns .count) (cond-none (leb 8 (p .returns .count)) 25 0 e .0) in
       good-pointer (good-returns good _ (omega arith)) a

@@ -1,5 +1,5 @@
 -- What a run's loop carries: what is left to run gives the same end, and the pane stays sound.
-use mathlib.Core.Path.{_≡_, sym, ap, _∙_}
+use mathlib.Core.Path.{_≡_, refl, sym, ap, _∙_}
 use mathlib.Core.List.{List}
 use Prim.Native.Nat.{ℕ, suc, _+_, _-_, _≤_, _<_}
 use native.Mathlib.Nat.{zero-add, add-assoc}
@@ -12,6 +12,7 @@ use Rattle.model.specs.declared.Row.{Row}
 use Rattle.model.specs.declared.Pane.{Pane}
 use Rattle.model.specs.Numbers.{statusRunning}
 use Rattle.model.specs.Bitmaps.{paneSurface, pixels}
+use Rattle.model.specs.declared.Command.{Command}
 use Rattle.model.specs.declared.Decoded.{Decoded}
 use Rattle.model.specs.declared.Decoded.the-variants.{Do, End, Fault}
 use Rattle.model.specs.Commands.{decode}
@@ -22,7 +23,15 @@ use Rattle.model.specs.Runs.{Finish, stepped, follow, runs}
 use Rattle.model.proofs.Decisions.{cond-true, cond-ind}
 use Rattle.model.proofs.RunLaws.{runs-idle}
 use Rattle.drawing.specs.Stepping.{Sound, Left, left, leftOf}
+use Rattle.gp.specs.Obeying.{stoppedOf}
 use Rattle.gp.proofs.KeepLaws.{step-good}
+use Rattle.gp.proofs.ObeyLaws.{stepped-stopped}
+
+-- after an end word or a fault the status is not 1
+stopped-idle : (p : Pane) (d : Decoded) → ((c : Command) (next : ℕ) → d ≡ Do c next → ⊥) → stoppedOf p d .progress .status ≡ statusRunning → ⊥
+stopped-idle p End none e = omega arith
+stopped-idle p (Fault f) none e = omega arith
+stopped-idle p (Do c next) none e = none c next refl
 
 -- so many commands more
 abbrev pub more : ℕ → Left → Left
@@ -63,6 +72,14 @@ module _ (g : Geometry) (r : Row) where
   unfolding onward
   onward-step n m p q s t s′ t′ k e h =
       ap (more m) (runs-step n p s t e ∙ ap (onward n) (sym h)) ∙ sym (onward-more n m (left k q s′ t′))
+
+  -- an end word, or a fault of the decoder, ends the run
+  pub onward-stopped : (n m : ℕ) (p q : Pane) (s t : List ℕ) (d : Decoded) → p .progress .status ≡ statusRunning → d ≡ decode (r .len) t (p .progress .pointer)
+      → ((c : Command) (next : ℕ) → d ≡ Do c next → ⊥) → q ≡ stoppedOf p d → onward (suc n) (left m p s t) ≡ left m q s t
+  onward-stopped n m p q s t d e f none h =
+      onward-step n m p q s t s t 0 e (stepped-stopped g r p s t d q f none h)
+      ∙ onward-idle n (left (m + 0) q s t) (λ z. stopped-idle p d none (sym (ap (λ (x : Pane). x .progress .status) h) ∙ z))
+      ∙ (λ i. left (let z : m + 0 ≡ m = omega arith in z i) q s t)
 
 -- a step counts one command at the most
 planOf-counted : (g : Geometry) (r : Row) (p : Pane) (store : List ℕ) (next : ℕ) (e : Effect) → planOf g r p store next e .counted ≤ 1

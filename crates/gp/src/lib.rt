@@ -2,8 +2,8 @@
 // budget is left.
 ghost use mathlib.Core.Path.{_≡_};
 ghost use lib.ListN.{length};
-ghost use Rattle.model.specs.Runs.{stepped, runs};
-ghost use Rattle.decoder.proofs.DecodeLaws.{Addressed};
+ghost use Rattle.model.specs.Commands.{Addressed};
+ghost use Rattle.model.specs.Runs.{runs};
 ghost use Rattle.gp.specs.Obeying.{obeyed, stoppedOf};
 ghost use Rattle.drawing.specs.Stepping.{Sound, left, leftOf};
 use model::Command;
@@ -16,7 +16,7 @@ use perform::perform;
 // Status 1: running.
 const RUNNING: u8 = 1;
 
-// The record after a step or a run, and the commands done.
+// The record after a command or a run, and the commands done.
 pub struct Stepped {
     pub pane: Pane,
     pub count: u32,
@@ -55,20 +55,8 @@ fn stopped(p: Pane, d: Decoded) -> Pane
     }
 }
 
-// One step of a pane: the command at the pointer, or the end, or a fault.
-pub fn step(screen: &mut [u8], store: &mut [u8], g: Geometry, r: Row, p: Pane) -> Stepped
-    requires { ⌜ Sound g r p (length (now screen)) (length (now store)) ⌝ }
-    ensures { λ s. ⌜ left (s .count) (s .pane) (now (screen .exit)) (now (store .exit)) ≡ leftOf (stepped g r p (now (screen .entry)) (now (store .entry))) ⌝ }
-{
-    let d = decoder::decode(store, p.progress.pointer);
-    let Decoded::Do(c, next) = d else {
-        let q = stopped(p, d);
-        return Stepped { pane: q, count: 0 };
-    };
-    obey(screen, store, g, r, p, c, next)
-}
-
-// Commands done while the status is 1 and budget is left.
+// Commands decoded, judged and done while the status is 1 and budget is left. An end word, or a fault of the decoder, ends
+// the run.
 pub fn run(
     screen: &mut [u8],
     store: &mut [u8],
@@ -87,7 +75,12 @@ pub fn run(
         if q.progress.status != RUNNING {
             return Stepped { pane: q, count };
         }
-        let s = step(screen, store, g, r, q);
+        let d = decoder::decode(store, q.progress.pointer);
+        let Decoded::Do(c, next) = d else {
+            let end = stopped(q, d);
+            return Stepped { pane: end, count };
+        };
+        let s = obey(screen, store, g, r, q, c, next);
         q = s.pane;
         count += s.count;
         rest -= 1;

@@ -13,13 +13,13 @@ use borrow.Author.Tests.{leb-false, eqb-true}
 use Rattle.model.specs.declared.Geometry.{Geometry}
 use Rattle.model.specs.declared.Row.{Row}
 use Rattle.model.specs.Words.{bitAt}
-use Rattle.model.specs.Bitmaps.{rowWords, gridBit, placeBit, paneSurface, pixels}
+use Rattle.model.specs.Bitmaps.{rowWords, gridBit, placeBit, paneSurface, pixels, Depth}
 use Rattle.model.specs.Numbers.{refusePane, refuseRecord}
 use Rattle.model.specs.Record.{noPane}
 use Rattle.model.specs.Setup.{paneBad}
 use Rattle.model.specs.Calls.{State, Request, Answer, Outcome, rowOf, recordOf, storeOf, part, ownRefusal, setupRefusal, callChecks, callRefusal, refusal, refused, withPane, onPane, accepted, exec}
 use Rattle.model.proofs.Decisions.{cond-ind, cond-none, orElse-none}
-use Rattle.model.proofs.PlaceLaws.{Depth, apart}
+use Rattle.model.proofs.PlaceLaws.{apart}
 use Rattle.model.proofs.PartLaws.{length-part, part-ext, length-inPart, part-inPart, inPart-out}
 use Rattle.model.proofs.PixelLaws.{InPane, same-bits}
 use Rattle.model.proofs.SetupLaws.{Valid, NoPixel, NoByte}

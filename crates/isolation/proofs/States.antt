@@ -12,12 +12,11 @@ use Rattle.model.specs.declared.Geometry.{Geometry}
 use Rattle.model.specs.declared.Row.{Row}
 use Rattle.model.specs.declared.Pane.{Pane}
 use Rattle.model.specs.Replies.{refusedWith, acceptedWith}
-use Rattle.model.specs.Bitmaps.{rowWords, paneSurface, pixels}
+use Rattle.model.specs.Bitmaps.{rowWords, paneSurface, pixels, Fits}
 use Rattle.model.specs.Record.{fresh}
 use Rattle.model.specs.Setup.{rowAt, checks}
 use Rattle.model.specs.Calls.{State, Answer, rowOf, recordOf, part, setupRefusal, setUp}
 use Rattle.model.proofs.Decisions.{split, cond-true, cond-false}
-use Rattle.model.proofs.PixelLaws.{Fits}
 use Rattle.model.proofs.SetupLaws.{Valid, checks-say}
 use Rattle.isolation.specs.TwoRuns.{Accepted}
 

@@ -16,7 +16,7 @@ use Rattle.model.specs.declared.Command.{Command}
 use Rattle.model.specs.declared.Decoded.{Decoded}
 use Rattle.model.specs.declared.Decoded.the-variants.{Do, End, Fault}
 use Rattle.model.specs.Replies.{Response, acceptedWith, natural, ranValues}
-use Rattle.model.specs.Bitmaps.{Surface, paneSurface, inside, pixels}
+use Rattle.model.specs.Bitmaps.{Surface, paneSurface, inside, pixels, Fits}
 use Rattle.model.specs.Pixels.{Change, change, changes}
 use Rattle.model.specs.Commands.{decode}
 use Rattle.model.specs.Faults.{faultOf}
@@ -27,7 +27,7 @@ use Rattle.model.specs.Calls.{Call, put, start, run, look, pixel, peek, 
 use Rattle.model.proofs.Decisions.{cond-none, cond-true, cond-false, cond-ind, cond-rel}
 use Rattle.model.proofs.FieldLaws.{length-put}
 use Rattle.model.proofs.PartLaws.{length-inPart}
-use Rattle.model.proofs.PixelLaws.{Fits, Framed, fits-framed, framed-refl, framed-trans, changes-frame, changes-agree}
+use Rattle.model.proofs.PixelLaws.{Framed, fits-framed, framed-refl, framed-trans, changes-frame, changes-agree}
 
 -- ## A step keeps the store's length: the one law of a command that isolation needs
 

@@ -9,18 +9,12 @@ use native.Mathlib.Decide.{decLt}
 use lib.ListN.{length}
 use lib.Dec.{eqb}
 use Rattle.model.specs.Words.{bit, num, bitAt, fieldAt, putField}
-use Rattle.model.specs.Bitmaps.{Surface, placeBit, inside, pixels}
+use Rattle.model.specs.Bitmaps.{Surface, Depth, Fits, placeBit, inside, pixels}
 use Rattle.model.specs.Pixels.{Change, change, changes}
 use Rattle.model.proofs.FieldLaws.{length-put, put-keeps, put-field, field-bits}
-use Rattle.model.proofs.PlaceLaws.{Depth, in-byte, in-rows, apart}
+use Rattle.model.proofs.PlaceLaws.{in-byte, in-rows, apart}
 use borrow.Author.Tests.{ltb-true, lt-ltb, eqb-true, eqb-false}
 use Rattle.model.proofs.Decisions.{split, cond-true, cond-false, both-true, both-of}
-
--- the surface's columns lie in its rows, and its rows in the buffer
-pub record Fits (u : Surface) (s : List ℕ) : Type 0 where
-  pub depth : Depth (u .bits)
-  pub right : (u .left + u .width) * u .bits ≤ 16 * u .words
-  pub long : u .base + 2 * ((u .top + u .height) * u .words) ≤ length s
 
 -- bit n of the screen is one of the pane's
 pub record InPane (u : Surface) (n : ℕ) : Type 0 where

@@ -12,9 +12,8 @@ use lib.Dec.{eqb, ltb}
 use Rattle.model.specs.declared.Geometry.{Geometry}
 use Rattle.model.specs.declared.Row.{Row}
 use Rattle.model.specs.Ranges.{anyBelow, outOf}
-use Rattle.model.specs.Bitmaps.{isDepth, shareSpan}
+use Rattle.model.specs.Bitmaps.{isDepth, shareSpan, Depth}
 use Rattle.model.specs.Setup.{rowAt, geometryBad, screenBytes, rectangleBad, storeBad, sharePixel, shareByte, checks}
-use Rattle.model.proofs.PlaceLaws.{Depth}
 use borrow.Author.Tests.{ltb-false, lt-ltb, eqb-true, not-false}
 use Rattle.model.proofs.Decisions.{both-of, either-false, either-true, cond-none, holds}
 

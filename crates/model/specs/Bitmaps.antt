@@ -1,9 +1,11 @@
 -- Bitmaps (01, "Screen, panes, stores" and DEF_BITMAP): rows of words, where a pixel lies, DEF_BITMAP's rule.
 -- The pane and a bitmap in the store are one kind of surface.
-use Prim.Native.Nat.{ℕ, _+_, _-_, _*_, _/_, _%_}
+use Prim.Native.Nat.{ℕ, _+_, _-_, _*_, _/_, _%_, _≤_}
+use mathlib.Core.Path.{_≡_}
 use mathlib.Core.Bool.{Bool, false, cond, not, _&&_, _||_}
 use mathlib.Core.List.{List}
 use lib.Dec.{ltb, eqb}
+use lib.ListN.{length}
 use Rattle.model.specs.Words.{fieldAt}
 pub use Rattle.model.specs.declared.Geometry.{Geometry}
 pub use Rattle.model.specs.declared.Row.{Row}
@@ -16,6 +18,11 @@ pub use Rattle.model.specs.declared.Surface.{Surface}
 -- "depth b of 1, 2, 4 or 8 bits"
 abbrev pub isDepth : ℕ → Bool
 isDepth b = eqb b 1 || (eqb b 2 || (eqb b 4 || eqb b 8))
+
+-- .. as contracts and laws use it: b bits to a pixel, e pixels to a byte
+pub record Depth (b : ℕ) : Type 0 where
+  pub e : ℕ
+  pub fills : b * e ≡ 8
 
 -- "A row takes ceil(width × b / 16) words"
 abbrev pub rowWords : ℕ → ℕ → ℕ
@@ -49,6 +56,12 @@ inside s x y = ltb x (s .width) && ltb y (s .height)
 -- the value of pixel (x,y): its b-bit number; 0 outside
 unfoldable pub pixels : Surface → List ℕ → ℕ → ℕ → ℕ
 pixels s buffer x y = cond (inside s x y) (fieldAt buffer (placeBit s x y) (s .bits)) 0
+
+-- the surface lies in the buffer: a depth of the four, its columns in its rows, and its rows in the buffer
+pub record Fits (s : Surface) (buffer : List ℕ) : Type 0 where
+  pub depth : Depth (s .bits)
+  pub right : (s .left + s .width) * s .bits ≤ 16 * s .words
+  pub long : s .base + 2 * ((s .top + s .height) * s .words) ≤ length buffer
 
 -- "Pixel (x,y) of a pane is screen pixel (left + x, top + y)"
 unfoldable pub paneSurface : Geometry → Row → Surface

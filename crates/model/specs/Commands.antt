@@ -1,11 +1,11 @@
 -- What stands at the pointer (01, "One command"; opcodes, word order and bit places 003, 2.10.1 to 2.10.33).
 -- "So a decoded command is either a command with its words or a fault."
-use Prim.Native.Nat.{ℕ, _+_, _*_, _/_, _%_}
+use Prim.Native.Nat.{ℕ, _+_, _*_, _/_, _%_, _<_}
 use mathlib.Core.List.{List}
 use mathlib.Core.Bool.{Bool, cond, _&&_, _||_}
 use lib.Dec.{ltb, leb, eqb}
 use Rattle.model.specs.Numbers.{faultOpcode, faultFetch}
-use Rattle.model.specs.Words.{wordAt, address}
+use Rattle.model.specs.Words.{wordAt, address, addressEnd}
 pub use Rattle.model.specs.declared.Opcode.{Opcode}
 use Rattle.model.specs.declared.Opcode.the-variants as opcode
 pub use Rattle.model.specs.declared.Shape.{Shape}
@@ -79,6 +79,21 @@ commandOf opcode.Polyline w = command.Polyline (address (w 0) (w 1)) (w 2)
 commandOf (opcode.Char t) w = command.Char (address (w 0) (w 1)) (w 2) t
 commandOf opcode.BitBltM w = command.BitBltM (address (w 0) (w 1)) (w 2) (w 3) (w 4) (w 5) (w 6) (w 7)
 commandOf opcode.ScanLines w = command.ScanLines (address (w 0) (w 1)) (w 2)
+
+-- a is the address that a command holds; the commands left out hold none
+pub data AddressIn : Command → ℕ → Type 0 where
+  linkTo : {a : ℕ} → AddressIn (command.Link a) a
+  callTo : {a : ℕ} → AddressIn (command.Call a) a
+  bitmapAt : {a xmax ymax b : ℕ} → AddressIn (command.DefBitmap a xmax ymax b) a
+  fontAt : {a : ℕ} {bytes : Bool} → AddressIn (command.DefCharSet a bytes) a
+  pairsAt : {a n : ℕ} → AddressIn (command.Polyline a n) a
+  triplesAt : {a n : ℕ} → AddressIn (command.ScanLines a n) a
+  sourceAt : {a xmax ymax x y dx dy : ℕ} → AddressIn (command.BitBltM a xmax ymax x y dx dy) a
+  stringAt : {a n : ℕ} {transparent : Bool} → AddressIn (command.Char a n transparent) a
+
+-- "Addresses have 22 bits"
+abbrev pub Addressed : Command → Type 0
+Addressed c = (a : ℕ) → AddressIn c a → a < addressEnd
 
 -- "An unknown opcode gives 20. Parameter words outside the store give 21"
 unfoldable pub fetch : ℕ → List ℕ → ℕ → Shape → Decoded

@@ -13,7 +13,7 @@ use lib.ListN.{length, getD, set}
 use lib.Pow.{pow-pos}
 use lib.Seq.{getD-set-same, getD-set-other, set-out, set-set, set-comm}
 use Rattle.model.specs.Words.{bit, num, within, fieldAt, splice, putField}
-use Rattle.model.specs.Bitmaps.{placeBit, placeShift, inside, pixels}
+use Rattle.model.specs.Bitmaps.{placeBit, placeShift, inside, pixels, Fits}
 use Rattle.model.specs.Pixels.{Change, blend, change}
 use Rattle.model.specs.declared.Surface.{Surface}
 use Rattle.model.specs.declared.Pen.{Pen}
@@ -22,7 +22,7 @@ use Rattle.model.proofs.BitLaws.{bit-num, num-cong}
 use Rattle.model.proofs.Decisions.{split, cond-true, cond-false}
 use Rattle.model.proofs.FieldLaws.{put-keeps, put-field, field-bits}
 use Rattle.model.proofs.PlaceLaws.{in-byte, in-rows, apart}
-use Rattle.model.proofs.PixelLaws.{Fits, inside-true, inside-of, pixels-in}
+use Rattle.model.proofs.PixelLaws.{inside-true, inside-of, pixels-in}
 use Rattle.raster.specs.Operations.{field}
 use Rattle.raster.specs.Pixels.{blending}
 use Rattle.raster.proofs.BitLaws.{num-lt}

@@ -5,9 +5,9 @@ use Prim.Native.Nat.{ℕ, zero, suc, _+_, _-_, _*_, _/_, _%_, _<_}
 use native.Mathlib.Omega.{arith}
 use native.Mathlib.Nat.{mul-comm}
 use lib.Bits.{bitXor, differ, xor-step, xor-zero-r}
-use Rattle.model.specs.Bitmaps.{gridBit, placeBit, placeShift}
+use Rattle.model.specs.Bitmaps.{gridBit, placeBit, placeShift, Depth}
 use Rattle.model.specs.declared.Surface.{Surface}
-use Rattle.model.proofs.PlaceLaws.{Depth, column-in-byte}
+use Rattle.model.proofs.PlaceLaws.{column-in-byte}
 use Rattle.raster.specs.declared.place.Spot.{Spot}
 use Rattle.raster.specs.Place.{Lies}
 

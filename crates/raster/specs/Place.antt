@@ -2,10 +2,8 @@
 use Prim.Native.Nat.{ℕ, _+_, _*_, _/_, _^_, _<_, _≤_}
 use mathlib.Core.Path.{_≡_}
 use mathlib.Core.List.{List}
-use Rattle.model.specs.Bitmaps.{placeBit, placeShift}
+use Rattle.model.specs.Bitmaps.{placeBit, placeShift, Depth, Fits}
 use Rattle.model.specs.declared.Surface.{Surface}
-use Rattle.model.proofs.PlaceLaws.{Depth}
-use Rattle.model.proofs.PixelLaws.{Fits}
 use Rattle.raster.specs.declared.place.Spot.{Spot}
 
 -- the numbers on the way to a pixel's byte fit the machine's

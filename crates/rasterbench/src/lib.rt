@@ -5,7 +5,7 @@ use model::Surface;
 ghost use mathlib.Core.Path.{_≡_};
 ghost use Prim.Native.Nat.{_<_};
 ghost use lib.ListN.{length};
-ghost use Rattle.model.proofs.PlaceLaws.{Depth};
+ghost use Rattle.model.specs.Bitmaps.{Depth};
 
 // Pixels of a surface of 128 by 64 in a buffer of 8192 bytes blended with a colour, row after row, until `turns` are done.
 #[no_mangle]

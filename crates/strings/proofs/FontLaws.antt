@@ -9,7 +9,7 @@ use lib.ListN.{getD}
 use borrow.Author.Tests.{ltb-false}
 use Rattle.model.specs.declared.Font.{Font}
 use Rattle.model.specs.declared.Font.the-variants as font
-use Rattle.model.specs.Words.{wordAt}
+use Rattle.model.specs.Words.{wordAt, addressEnd}
 use Rattle.model.specs.Setup.{baseBad, fontBad}
 use Rattle.model.specs.Glyphs.{baseOf, offsetWord, selector, descriptor}
 use Rattle.model.proofs.Decisions.{either-false}
@@ -28,10 +28,10 @@ module _ (store : List ℕ) (string k : ℕ) {f : Font} where
   descriptor-byte base e = rw e
 
 -- "a font base .. above 22 bits" is refused
-base-small : (a : ℕ) → baseBad a ≡ false → a < 4194304
+base-small : (a : ℕ) → baseBad a ≡ false → a < addressEnd
 base-small a h = let p = either-false (eqb (a % 2) 1) (ltb 0x3FFFFF a) h in omega (arith, ltb-false 0x3FFFFF a (p .1))
 
-pub baseOf-small : (f : Font) → fontBad f ≡ false → baseOf f < 4194304
+pub baseOf-small : (f : Font) → fontBad f ≡ false → baseOf f < addressEnd
 baseOf-small font.Absent h = omega arith
 baseOf-small (font.Word a) h = base-small a h
 baseOf-small (font.Byte a) h = base-small a h

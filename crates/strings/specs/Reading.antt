@@ -8,7 +8,7 @@ use Rattle.model.specs.declared.Row.{Row}
 use Rattle.model.specs.declared.Bitmap.{Bitmap}
 use Rattle.model.specs.declared.Font.{Font}
 use Rattle.model.specs.declared.Font.the-variants.{Word, Byte}
-use Rattle.model.specs.Words.{wordAt}
+use Rattle.model.specs.Words.{wordAt, addressEnd}
 use Rattle.model.specs.Ranges.{anyBelow}
 use Rattle.model.specs.Setup.{fontBad}
 use Rattle.model.specs.Glyphs.{offsetWord, descriptor, heightOf}
@@ -26,11 +26,11 @@ pub record Spelt (f : Font) (store : List ℕ) (string k : ℕ) : Type 0 where
 pub record Addressed (r : Row) (store : List ℕ) (f : Font) (string : ℕ) : Type 0 where
   pub long : length store ≡ r .len
   pub base : fontBad f ≡ false
-  pub small : string < 4194304
+  pub small : string < addressEnd
 
 -- n codes of a string lie in the store, and the font's base is of 22 bits
 pub record Coded (store : List ℕ) (base string n : ℕ) : Type 0 where
-  pub small : base < 4194304
+  pub small : base < addressEnd
   pub codes : (k : ℕ) → k < n → string + k < length store
 
 -- stringBad's parts in byte mode: the offset words that n codes name, and these with the codes

@@ -12,7 +12,7 @@ ghost use mathlib.Core.Path.{_≡_};
 ghost use mathlib.Core.Bool.{false, _||_};
 ghost use Prim.Native.Nat.{_+_, _*_, _<_};
 ghost use lib.ListN.{length};
-ghost use Rattle.model.specs.Words.{wordAt};
+ghost use Rattle.model.specs.Words.{wordAt, addressEnd};
 ghost use Rattle.model.specs.Glyphs.{heightOf};
 ghost use Rattle.model.specs.Faults.{arrayBad, stringBad, descriptorsBad};
 ghost use Rattle.strings.specs.Reading.{offsetsBad, codesBad, Addressed, Coded};
@@ -34,7 +34,7 @@ fn offsets_bad(store: &[u8], r: Row, active: Bitmap, base: u32, string: usize, n
 
 // Whether n codes, or some offset word that they name, are bad.
 fn codes_bad(store: &[u8], r: Row, active: Bitmap, base: u32, string: usize, n: usize) -> bool
-    requires { ⌜ (length (now store) ≡ r .len) × (base < 4194304) × (string < 4194304) × (n < 65536) ⌝ }
+    requires { ⌜ (length (now store) ≡ r .len) × (base < addressEnd) × (string < addressEnd) × (n < 65536) ⌝ }
     ensures { λ res. ⌜ res ≡ codesBad r active (now (store .entry)) base string n ⌝ }
 {
     if bytes_bad(r, active, string, n) {

@@ -6,7 +6,7 @@ use Rattle.model.specs.declared.Bitmap.{Bitmap}
 use Rattle.model.specs.Numbers.{faultBitmap}
 use Rattle.model.specs.Bitmaps.{ruleBroken}
 use Rattle.model.specs.Faults.{faultOf}
-use Rattle.decoder.proofs.DecodeLaws.{Addressed}
+use Rattle.model.specs.Commands.{Addressed, pairsAt, triplesAt, stringAt}
 use Rattle.faults.proofs.SoundLaws.{placed-sizes, sound-active}
 use borrow.Author.Needs.{needs}
 use Rattle.faults.proofs.fault_of.Statement.{statement}
@@ -112,7 +112,7 @@ mul-array-fault : tie.Need-mul-array-fault
 mul-array-fault c = search needs
 
 array-fault-requires : tie.Need-array-fault-requires
-array-fault-requires c κs = (subst Addressed (c .before .c5 .given .1) (c .before .before .before .before .before .before .pre .1), omega arith)
+array-fault-requires c κs = (subst Addressed (c .before .c5 .given .1) (c .before .before .before .before .before .before .pre .1) _ pairsAt, omega arith)
 
 enum-known-c-6 : tie.Need-enum-known-c-6
 enum-known-c-6 c = search needs
@@ -120,7 +120,7 @@ enum-known-c-6 c = search needs
 char-fault-requires : tie.Need-char-fault-requires
 char-fault-requires c κs =
     let s = c .before .before .before .before .before .before .pre .0 in
-    record { long = s .placed .part; base = s .good .text .font; small = subst Addressed (c .before .c6 .given .1) (c .before .before .before .before .before .before .pre .1) }
+    record { long = s .placed .part; base = s .good .text .font; small = subst Addressed (c .before .c6 .given .1) (c .before .before .before .before .before .before .pre .1) _ stringAt }
 
 enum-known-c-7 : tie.Need-enum-known-c-7
 enum-known-c-7 c = search needs
@@ -144,7 +144,7 @@ mul-array-fault-2 : tie.Need-mul-array-fault-2
 mul-array-fault-2 c = search needs
 
 array-fault-requires-2 : tie.Need-array-fault-requires-2
-array-fault-requires-2 c κs = (subst Addressed (c .before .c8 .given .1) (c .before .before .before .before .before .before .pre .1), omega arith)
+array-fault-requires-2 c κs = (subst Addressed (c .before .c8 .given .1) (c .before .before .before .before .before .before .pre .1) _ triplesAt, omega arith)
 
 returns : tie.Need-returns
 unfolding faultOf

@@ -26,7 +26,7 @@ returns c =
 perform-requires : tie.Need-perform-requires
 perform-requires c κs =
     let start = c .before .before .before .before .before .before .before in
-    record { sound = start .pre .0; addressed = start .pre .1; clear = sym (c .before .before .before .fault-of .ensures) ∙ c .before .before .if1 .left }
+    record { sound = start .pre .0; clear = sym (c .before .before .before .fault-of .ensures) ∙ c .before .before .if1 .left }
 
 same-length-2 : tie.Need-same-length-2
 same-length-2 c = search needs

@@ -2,6 +2,7 @@
 use mathlib.Core.Path.{ap, subst}
 use Prim.Native.Nat.{ℕ, _<_}
 use borrow.Author.Needs.{needs}
+use Rattle.model.specs.Words.{addressEnd}
 use Rattle.model.specs.Glyphs.{baseOf}
 use Rattle.model.specs.Faults.{stringBad}
 use Rattle.strings.specs.Reading.{offsetsBad}
@@ -28,8 +29,8 @@ codes-bad-requires : tie.Need-codes-bad-requires
 codes-bad-requires c κs =
     let start = c .before .before .before .before in
     let told = c .before .font .given in
-    let small : baseOf (start .args .font) < 4194304 = baseOf-small (start .args .font) (start .pre .base) in
-    (start .pre .long, subst (λ (n : ℕ). n < 4194304) (ap baseOf (told .1)) small, start .pre .small, search needs)
+    let small : baseOf (start .args .font) < addressEnd = baseOf-small (start .args .font) (start .pre .base) in
+    (start .pre .long, subst (λ (n : ℕ). n < addressEnd) (ap baseOf (told .1)) small, start .pre .small, search needs)
 
 returns : tie.Need-returns
 unfolding stringBad
