@@ -3,6 +3,7 @@
 README.md: runs of a program with their replies, and the code for the panel's programmer.
 docs/LISTS.md: scripts, listings and worked examples, as its "How to read the examples" describes them.
 examples/: each script with its page, the table of lines and replies and the picture.
+Every document: the files that it names are there.
 
 A fence has one of the labels known here; any other is a failure, and so is comparing less than LEAST.
 usage, from the top folder: python3 tests/documents.py
@@ -21,7 +22,7 @@ EXAMPLES = Path("examples")
 PANEL = Path("crates/panel/src/main.rt")
 
 # What the documents have now. Less means that a script, a listing or a picture is no longer found.
-LEAST = {"scripts": 32, "listings": 29, "commands": 89, "replies": 148, "pictures": 21}
+LEAST = {"scripts": 32, "listings": 29, "commands": 89, "replies": 148, "pictures": 21, "paths": 50}
 counts = dict.fromkeys(LEAST, 0)
 wrong = []
 
@@ -297,9 +298,22 @@ def check_examples():
             check_example_page(script)
 
 
+# ---- Files that the documents name, as `crates/console/src/face.rt` or `crates/*/src`
+
+NAMED = re.compile(r"`((?:crates|tests|tools|bench|reference|examples|docs|\.ci)/[^`\s]*)`")
+
+
+def check_paths(page):
+    """Each file or folder that a page names in quotes is there."""
+    for name in NAMED.findall(page.read_text()):
+        compare("paths", page, [name], [name] if any(Path().glob(name.rstrip("/"))) else [])
+
+
 check_readme()
 check_lists()
 check_examples()
+for page in [README, *sorted(Path("docs").glob("*.md")), *sorted(EXAMPLES.glob("*.md"))]:
+    check_paths(page)
 for kind, least in LEAST.items():
     if counts[kind] < least:
         wrong.append(f"only {counts[kind]} {kind} were compared; there were {least}")

@@ -1,7 +1,7 @@
 -- Bits that do not count, each set at least once (01, "One command": "Reserved bits are ignored", "Addresses have 22 bits"; "Pixels"; the places of
 -- the bits: 003, 2.10.1 to 2.10.33).
 use mathlib.Core.Path.{_≡_, refl}
-use mathlib.Core.Bool.{true, false}
+use mathlib.Core.Bool.{false}
 use mathlib.Core.List.{List, [], _∷_}
 use Prim.Native.Nat.{ℕ, _+_, _*_, _^_}
 use lib.ListN.{length, replicate}
