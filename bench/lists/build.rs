@@ -1,4 +1,4 @@
 fn main() {
     println!("cargo:rustc-link-search=native=../../target/staticlib");
-    println!("cargo:rustc-link-lib=static=consolebench");
+    println!("cargo:rustc-link-lib=static=bench_console");
 }

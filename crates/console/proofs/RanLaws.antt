@@ -15,10 +15,10 @@ use Rattle.model.specs.Replies.{acceptedWith, ranValues, response}
 use Rattle.model.specs.Calls.{State, run, on, part, inPart, ownRefusal, onPane, ran, rowOf, recordOf, storeOf, callChecks, callRefusal, exec}
 use Rattle.model.proofs.PartLaws.{length-part}
 use Rattle.drawing.specs.Stepping.{Sound, Left, left, leftOf}
-use Rattle.answers.specs.declared.Answered.{Answered}
-use Rattle.answers.specs.Answers.{answer, turnedAway, withRecord, replaced}
-use Rattle.answers.proofs.AcceptedLaws.{admitted}
-use Rattle.answers.proofs.CallLaws.{exec-refused-own, exec-accepted}
+use Rattle.call_common.specs.declared.Answered.{Answered}
+use Rattle.call_common.specs.Answers.{answer, turnedAway, withRecord, replaced}
+use Rattle.call_common.proofs.AcceptedLaws.{admitted}
+use Rattle.call_common.proofs.CallLaws.{exec-refused-own, exec-accepted}
 
 -- a pane by the row and the record that were read: the store is lent from the row's start up to its start plus its length
 pub sound : (c : Console) (screen : ℕ) (stores : List ℕ) (number : ℕ) {m : ℕ} → m ≡ callChecks c screen (length stores) number → m ≡ 0

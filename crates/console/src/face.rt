@@ -1,11 +1,11 @@
 // The face pinned: set-up and every call, each called once by the name that this crate hands it on under. The contract is that of the very
 // call, so no line of the face can name another.
-use answers::Answered;
+use call_common::Answered;
 use model::Console;
 ghost use mathlib.Core.Path.{_≡_};
 ghost use Rattle.model.specs.Calls.{exec, setUp, on};
 ghost use Rattle.model.specs.Calls as calls;
-ghost use Rattle.answers.specs.Answers.{state, answer};
+ghost use Rattle.call_common.specs.Answers.{state, answer};
 
 fn set_up(screen: &[u8], stores: &[u8], console: Console) -> Answered
     ensures { λ r. ⌜ answer r (now (screen .entry)) (now (stores .entry))

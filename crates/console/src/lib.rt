@@ -1,34 +1,34 @@
 // The console: set-up and the calls on a pane. Each takes the console record by value and lends both buffers, whatever they
 // hold, and answers the record after the call with a reply. Reply, record and both buffers are what paper 01 says of them,
 // refused or not: `exec` and `setUp` of model's specs/Calls.antt. Run stands here, the other calls in the crates named below.
-use answers::record_at;
-use answers::refused;
-use answers::row_at;
-use answers::with_record;
-use checks::refusal::call_refusal;
+use call_common::record_at;
+use call_common::refused;
+use call_common::row_at;
+use call_common::with_record;
 use model::Console;
 use model::Pane;
 use model::Ran;
 use model::Reply;
+use refusals::call::call_refusal;
 ghost use mathlib.Core.Path.{_≡_};
 ghost use Prim.Native.Nat.{ℕ};
 ghost use Rattle.model.specs.Calls.{exec, on, ownRefusal};
 ghost use Rattle.model.specs.Calls as calls;
 ghost use Rattle.model.specs.declared.Row.{Row};
-ghost use Rattle.answers.specs.Answers.{state, answer};
+ghost use Rattle.call_common.specs.Answers.{state, answer};
 
 mod face; // face.rt: every call called once by the name that it has here
 
 // What a caller names: the calls, what they answer, and a fresh pane record.
-pub use answers::Answered;
-pub use answers::fresh;
-pub use pixelcall::pixel;
-pub use recordcalls::clear::clear;
-pub use recordcalls::look::look;
-pub use recordcalls::start::start;
-pub use setup::set_up;
-pub use storecalls::peek::peek;
-pub use storecalls::put::put;
+pub use call_common::Answered;
+pub use call_common::fresh;
+pub use call_pixel::pixel;
+pub use call_record::clear::clear;
+pub use call_record::look::look;
+pub use call_record::start::start;
+pub use call_setup::set_up;
+pub use call_store::peek::peek;
+pub use call_store::put::put;
 
 // A status that isn't 1.
 const REFUSE_STATUS: u8 = 4;
@@ -68,7 +68,7 @@ pub fn run(
     }
     let start = row.start as usize;
     let end = start + row.len as usize;
-    let s = gp::run(
+    let s = processor::run(
         screen,
         &mut stores[start..end],
         console.geometry,

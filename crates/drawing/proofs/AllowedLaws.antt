@@ -15,9 +15,9 @@ use Rattle.model.specs.Lines.{Move, Span, polyline, scanLines}
 use Rattle.model.specs.Faults.{noBitmap, arrayBad, drawFault, faultOf}
 use Rattle.model.proofs.Decisions.{cond-none}
 use Rattle.bitmaps.proofs.DepthLaws.{isDepth-known}
-use Rattle.draw.specs.Canvas.{Reach}
-use Rattle.draw.specs.Targets.{targetOf}
-use Rattle.draw.proofs.ReachLaws.{arrayBad-bytes, bytesBad-reach, aimed-of}
+use Rattle.canvas.specs.Canvas.{Reach}
+use Rattle.canvas.specs.Targets.{targetOf}
+use Rattle.canvas.proofs.ReachLaws.{arrayBad-bytes, bytesBad-reach, aimed-of}
 use Rattle.drawing.specs.Stepping.{Sound}
 
 -- what the target of a pane is made from

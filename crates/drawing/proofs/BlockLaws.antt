@@ -22,11 +22,11 @@ use Rattle.model.specs.Steps.{drewPane}
 use Rattle.model.proofs.Decisions.{cond-none}
 use Rattle.model.proofs.PlaceLaws.{depth-bounds}
 use Rattle.bitmaps.specs.Places.{Placed}
-use Rattle.draw.specs.declared.Target.{Target}
-use Rattle.draw.specs.Canvas.{canvas, paintedAll}
-use Rattle.draw.specs.Targets.{Ready, isPane, targetOf}
-use Rattle.copies.specs.Moves.{rectangle}
-use Rattle.copies.proofs.SourceLaws.{Plain, Copyable, block-plain, copy-judged, source-named, copy-drawing}
+use Rattle.canvas.specs.declared.Target.{Target}
+use Rattle.canvas.specs.Canvas.{canvas, paintedAll}
+use Rattle.canvas.specs.Targets.{Ready, isPane, targetOf}
+use Rattle.draw_copies.specs.Moves.{rectangle}
+use Rattle.draw_copies.proofs.SourceLaws.{Plain, Copyable, block-plain, copy-judged, source-named, copy-drawing}
 use Rattle.drawing.specs.Stepping.{left, done}
 use Rattle.drawing.proofs.AllowedLaws.{drawFault-none}
 use Rattle.drawing.proofs.ReadyLaws.{drew-painted}

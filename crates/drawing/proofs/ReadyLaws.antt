@@ -20,9 +20,9 @@ use Rattle.model.specs.Runs.{carried}
 use Rattle.model.specs.Steps.{drewPane, planOf}
 use Rattle.bitmaps.specs.Places.{Placed}
 use Rattle.bitmaps.proofs.BitmapLaws.{ruleBroken-store, bitmap-fits-screen, bitmap-fits-store, clip-within}
-use Rattle.draw.specs.Canvas.{Canvas, canvas, paintedAll}
-use Rattle.draw.specs.Targets.{Ready, isPane, targetOf}
-use Rattle.draw.proofs.PlanLaws.{canvasOf, planned}
+use Rattle.canvas.specs.Canvas.{Canvas, canvas, paintedAll}
+use Rattle.canvas.specs.Targets.{Ready, isPane, targetOf}
+use Rattle.canvas.proofs.PlanLaws.{canvasOf, planned}
 use Rattle.drawing.specs.Stepping.{Sound, left, leftOf, done}
 
 -- a surface of so many columns lies in its buffer

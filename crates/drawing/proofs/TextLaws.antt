@@ -16,13 +16,13 @@ use Rattle.model.specs.Faults.{noBitmap, noFont, stringBad, descriptorsBad, fau
 use Rattle.model.specs.Effects.{effectOf}
 use Rattle.model.specs.Steps.{drewPane}
 use Rattle.model.proofs.Decisions.{cond-none}
-use Rattle.draw.specs.declared.Target.{Target}
-use Rattle.draw.specs.Canvas.{canvas}
-use Rattle.draw.specs.Targets.{targetOf}
-use Rattle.glyphs.specs.declared.text.Written.{Written}
-use Rattle.draw.proofs.ReachLaws.{aimed-of}
-use Rattle.glyphs.specs.Writing.{Writable, Outcome, outcome, carriedOut}
-use Rattle.strings.proofs.CheckLaws.{char-legible}
+use Rattle.canvas.specs.declared.Target.{Target}
+use Rattle.canvas.specs.Canvas.{canvas}
+use Rattle.canvas.specs.Targets.{targetOf}
+use Rattle.draw_text.specs.declared.text.Written.{Written}
+use Rattle.canvas.proofs.ReachLaws.{aimed-of}
+use Rattle.draw_text.specs.Writing.{Writable, Outcome, outcome, carriedOut}
+use Rattle.fault_text.proofs.CheckLaws.{char-legible}
 use Rattle.drawing.specs.Stepping.{Sound, left, done}
 use Rattle.drawing.proofs.AllowedLaws.{drawFault-none}
 use Rattle.drawing.proofs.ReadyLaws.{ready-of, drew-painted}

@@ -13,7 +13,7 @@ use Rattle.model.specs.Faults.{faultOf}
 use Rattle.model.specs.Runs.{Finish, carried}
 use Rattle.model.specs.Steps.{planOf}
 use Rattle.bitmaps.specs.Places.{Placed}
-use Rattle.checks.specs.Good.{Good}
+use Rattle.refusals.specs.Good.{Good}
 
 -- what refusals 6 to 12 leave of a pane, its screen and its store having so many bytes
 pub record Sound (g : Geometry) (r : Row) (p : Pane) (screen store : ℕ) : Type 0 where

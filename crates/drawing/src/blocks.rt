@@ -1,5 +1,5 @@
 // BIT_BLT and BIT_BLT_M.
-use draw::Target;
+use canvas::Target;
 use model::Bitmap;
 use model::Geometry;
 use model::Pane;
@@ -27,10 +27,10 @@ pub fn bit_blt(
     requires { ⌜ Allowed g r p (length (now screen)) (now store) (command.BitBlt x y dx dy) ⌝ }
     ensures { λ q. ⌜ left 1 q (now (screen .exit)) (now (store .exit)) ≡ done g r p next (command.BitBlt x y dx dy) (now (screen .entry)) (now (store .entry)) ⌝ }
 {
-    let t = draw::target_of(g, r, p);
+    let t = canvas::target_of(g, r, p);
     let from = p.position;
     let text = p.text;
-    let hits = copies::bit_blt(
+    let hits = draw_copies::bit_blt(
         screen,
         store,
         t,
@@ -41,8 +41,8 @@ pub fn bit_blt(
         dy as usize,
         0,
     );
-    let to = copies::copied_to(from, dx, text.spacing);
-    commands::position::drew(p, next, to, false, hits)
+    let to = draw_copies::copied_to(from, dx, text.spacing);
+    state_commands::position::drew(p, next, to, false, hits)
 }
 
 // The bitmap that BIT_BLT_M names: at the depth of the one that is drawn on.
@@ -73,16 +73,16 @@ pub fn bit_blt_m(
     requires { ⌜ Allowed g r p (length (now screen)) (now store) (command.BitBltM address xmax ymax x y dx dy) ⌝ }
     ensures { λ q. ⌜ left 1 q (now (screen .exit)) (now (store .exit)) ≡ done g r p next (command.BitBltM address xmax ymax x y dx dy) (now (screen .entry)) (now (store .entry)) ⌝ }
 {
-    let t = draw::target_of(g, r, p);
+    let t = canvas::target_of(g, r, p);
     let from = p.position;
     let text = p.text;
     let source = source_of(t, address, xmax, ymax);
-    let u = draw::surface_of(g, r, source);
-    let hits = copies::bit_blt_m(
+    let u = canvas::surface_of(g, r, source);
+    let hits = draw_copies::bit_blt_m(
         screen,
         store,
         t,
-        draw::is_pane(source),
+        canvas::is_pane(source),
         u,
         from,
         x as usize,
@@ -91,6 +91,6 @@ pub fn bit_blt_m(
         dy as usize,
         0,
     );
-    let to = copies::copied_to(from, dx, text.spacing);
-    commands::position::drew(p, next, to, false, hits)
+    let to = draw_copies::copied_to(from, dx, text.spacing);
+    state_commands::position::drew(p, next, to, false, hits)
 }

@@ -21,11 +21,11 @@ pub fn point(
     requires { ⌜ Allowed g r p (length (now screen)) (now store) (command.Point dx dy) ⌝ }
     ensures { λ q. ⌜ left 1 q (now (screen .exit)) (now (store .exit)) ≡ done g r p next (command.Point dx dy) (now (screen .entry)) (now (store .entry)) ⌝ }
 {
-    let t = draw::target_of(g, r, p);
+    let t = canvas::target_of(g, r, p);
     let from = p.position;
     let to = coordinates::move_by(from, dx, dy);
-    let hits = lines::point(screen, store, t, to, 0);
-    commands::position::drew(p, next, to, false, hits)
+    let hits = draw_lines::point(screen, store, t, to, 0);
+    state_commands::position::drew(p, next, to, false, hits)
 }
 
 // LINE: the position ends at the far end.
@@ -42,11 +42,11 @@ pub fn line(
     requires { ⌜ Allowed g r p (length (now screen)) (now store) (command.Line dx dy) ⌝ }
     ensures { λ q. ⌜ left 1 q (now (screen .exit)) (now (store .exit)) ≡ done g r p next (command.Line dx dy) (now (screen .entry)) (now (store .entry)) ⌝ }
 {
-    let t = draw::target_of(g, r, p);
+    let t = canvas::target_of(g, r, p);
     let from = p.position;
-    let hits = lines::line(screen, store, t, from, dx, dy, 0);
+    let hits = draw_lines::line(screen, store, t, from, dx, dy, 0);
     let to = coordinates::move_by(from, dx, dy);
-    commands::position::drew(p, next, to, false, hits)
+    state_commands::position::drew(p, next, to, false, hits)
 }
 
 // RECT: the outline; the position stays.
@@ -63,10 +63,10 @@ pub fn rect(
     requires { ⌜ Allowed g r p (length (now screen)) (now store) (command.Rect dx dy) ⌝ }
     ensures { λ q. ⌜ left 1 q (now (screen .exit)) (now (store .exit)) ≡ done g r p next (command.Rect dx dy) (now (screen .entry)) (now (store .entry)) ⌝ }
 {
-    let t = draw::target_of(g, r, p);
+    let t = canvas::target_of(g, r, p);
     let from = p.position;
-    let hits = outlines::rect(screen, store, t, from, dx, dy);
-    commands::position::drew(p, next, from, false, hits)
+    let hits = draw_outlines::rect(screen, store, t, from, dx, dy);
+    state_commands::position::drew(p, next, from, false, hits)
 }
 
 // POLYLINE: the lines of an array, from the position on.
@@ -83,11 +83,11 @@ pub fn polyline(
     requires { ⌜ Allowed g r p (length (now screen)) (now store) (command.Polyline array count) ⌝ }
     ensures { λ q. ⌜ left 1 q (now (screen .exit)) (now (store .exit)) ≡ done g r p next (command.Polyline array count) (now (screen .entry)) (now (store .entry)) ⌝ }
 {
-    let t = draw::target_of(g, r, p);
+    let t = canvas::target_of(g, r, p);
     let from = p.position;
-    let drawn = arrays::polyline(screen, store, t, from, array as usize, count as usize);
+    let drawn = draw_arrays::polyline(screen, store, t, from, array as usize, count as usize);
     let to = drawn.position;
-    commands::position::drew(p, next, to, false, drawn.hits)
+    state_commands::position::drew(p, next, to, false, drawn.hits)
 }
 
 // SCAN_LINES: the horizontal lines of an array; the position stays at the last one's start.
@@ -104,9 +104,9 @@ pub fn scan_lines(
     requires { ⌜ Allowed g r p (length (now screen)) (now store) (command.ScanLines array count) ⌝ }
     ensures { λ q. ⌜ left 1 q (now (screen .exit)) (now (store .exit)) ≡ done g r p next (command.ScanLines array count) (now (screen .entry)) (now (store .entry)) ⌝ }
 {
-    let t = draw::target_of(g, r, p);
+    let t = canvas::target_of(g, r, p);
     let from = p.position;
-    let drawn = arrays::scan_lines(screen, store, t, from, array as usize, count as usize);
+    let drawn = draw_arrays::scan_lines(screen, store, t, from, array as usize, count as usize);
     let to = drawn.position;
-    commands::position::drew(p, next, to, false, drawn.hits)
+    state_commands::position::drew(p, next, to, false, drawn.hits)
 }

@@ -22,10 +22,10 @@ pub fn char(
     requires { ⌜ Allowed g r p (length (now screen)) (now store) (command.Char string count transparent) ⌝ }
     ensures { λ q. ⌜ left 1 q (now (screen .exit)) (now (store .exit)) ≡ done g r p next (command.Char string count transparent) (now (screen .entry)) (now (store .entry)) ⌝ }
 {
-    let t = draw::target_of(g, r, p);
+    let t = canvas::target_of(g, r, p);
     let from = p.position;
     let text = p.text;
-    let drawn = glyphs::write(screen, store, t, text, transparent, from, string, count);
+    let drawn = draw_text::write(screen, store, t, text, transparent, from, string, count);
     let to = drawn.position;
-    commands::position::drew(p, next, to, drawn.trap, drawn.hits)
+    state_commands::position::drew(p, next, to, drawn.trap, drawn.hits)
 }

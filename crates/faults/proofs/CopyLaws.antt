@@ -10,8 +10,8 @@ use Rattle.model.specs.Numbers.{faultCopy}
 use Rattle.model.specs.Bitmaps.{surfaceOf, ruleBroken}
 use Rattle.model.specs.Copies.{Block, blockBad, sharing}
 use Rattle.model.specs.Faults.{noBitmap, copyFault}
-use Rattle.copies.specs.Moves.{Readable}
-use Rattle.copies.proofs.SourceLaws.{bitmap-small}
+use Rattle.draw_copies.specs.Moves.{Readable}
+use Rattle.draw_copies.proofs.SourceLaws.{bitmap-small}
 use Rattle.faults.specs.Sound.{Active}
 
 -- its rows have small addresses

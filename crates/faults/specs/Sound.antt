@@ -9,7 +9,7 @@ use Rattle.model.specs.declared.Bitmap.{Bitmap}
 use Rattle.model.specs.declared.Clip.{Clip}
 use Rattle.model.specs.Bitmaps.{bitmapOf, surfaceOf, ruleBroken}
 use Rattle.bitmaps.specs.Places.{Placed}
-use Rattle.checks.specs.Good.{Good}
+use Rattle.refusals.specs.Good.{Good}
 
 -- the clip that DEF_CLIP_RECT names
 abbrev pub clipOf : ℕ → ℕ → ℕ → ℕ → Clip

@@ -1,6 +1,6 @@
 // Each command's fault, looked for before any of that command is done.
-use copychecks::block_bad;
-use draw::surface_of;
+use canvas::surface_of;
+use fault_copies::block_bad;
 use model::Bitmap;
 use model::Clip;
 use model::Command;
@@ -9,7 +9,7 @@ use model::Geometry;
 use model::Pane;
 use model::Returns;
 use model::Row;
-use tables::refuse;
+use refusals::table::refuse;
 ghost use mathlib.Core.Path.{_≡_};
 ghost use mathlib.Core.Bool.{false, cond, _||_};
 ghost use Prim.Native.Nat.{_%_, _≤_, _<_, _^_};
@@ -21,7 +21,7 @@ ghost use Rattle.model.specs.Bitmaps.{surfaceOf, ruleBroken};
 ghost use Rattle.model.specs.Commands.{Addressed};
 ghost use Rattle.model.specs.Copies.{blockBad};
 ghost use Rattle.model.specs.Faults.{noBitmap, noFont, clipOutside, arrayBad, stringBad, descriptorsBad, block, copyFault, faultOf};
-ghost use Rattle.strings.specs.Reading as reading;
+ghost use Rattle.fault_text.specs.Reading as reading;
 ghost use Rattle.faults.specs.Sound.{clipOf, sourceOf, Active, Sound};
 
 // "DEF_BITMAP: 22 rule broken", and so for BIT_BLT_M's source.
@@ -128,7 +128,7 @@ fn char_fault(store: &[u8], r: Row, active: Bitmap, font: Font, string: u32, cou
     requires { ⌜ reading.Addressed r (now store) font string ⌝ }
     ensures { λ f. ⌜ f ≡ cond (noBitmap active) faultNoBitmap (cond (noFont font) faultNoFont (cond (stringBad r active (now (store .entry)) font string count || descriptorsBad r active (now (store .entry)) font string count) faultData 0)) ⌝ }
 {
-    let bad = strings::char_bad(store, r, active, font, string, count);
+    let bad = fault_text::char_bad(store, r, active, font, string, count);
     let absent = no_font(font);
     let fault = refuse(absent, FAULT_NO_FONT, refuse(bad, FAULT_DATA, 0));
     draw_fault(active, fault)
@@ -167,7 +167,7 @@ fn copy_fault(
     if block_bad(s, x, y, dx, dy) {
         return FAULT_COPY;
     }
-    let shared = copychecks::sharing(active, source, s, x, y, dx, dy);
+    let shared = fault_copies::sharing(active, source, s, x, y, dx, dy);
     refuse(shared, FAULT_COPY, 0)
 }
 

@@ -1,4 +1,4 @@
 // The script program of paper 01.
 fn main() {
-    script_program::converse(parser::Language::Panes);
+    script_program::converse(script_lines::Language::Panes);
 }

@@ -3,8 +3,6 @@
 ghost use mathlib.Core.Path.{_≡_};
 ghost use lib.ListN.{length};
 ghost use Rattle.drawing.specs.Stepping.{Allowed, left, done};
-use commands::position;
-use commands::settings;
 use drawing::blocks;
 use drawing::strokes;
 use drawing::text;
@@ -12,6 +10,9 @@ use model::Command;
 use model::Geometry;
 use model::Pane;
 use model::Row;
+use state_commands::control;
+use state_commands::position;
+use state_commands::settings;
 
 // A command that is free of faults, done: the record answered has the address after it.
 pub fn perform(

@@ -5,13 +5,13 @@ use Prim.Native.Nat.{ℕ}
 use Prim.Native.Char.{code}
 use Prim.Native.String.{String, [], _∷_}
 use Rattle.model.proofs.Computing.{machine}
-use Rattle.fields.specs.Numbers.{longer, extended, andDigits, spelledNumber}
-use Rattle.fields.specs.Fields.{onFirst, pieces, spelledBytes, numbersOf, lineNumbers}
-use Rattle.parser.specs.declared.Language.the-variants as language
-use Rattle.parser.specs.Lines.{screenLine, paneLine, openLine, putLine, startLine, runLine, lookLine, pixelLine, byFurtherLetter, byLetter, lettered, lineOf}
-use Rattle.numerals.specs.Numerals.{numeral, listed}
-use Rattle.printer.specs.Replies.{replyText}
-use Rattle.session.specs.Desk.{made, restored, obeyed}
+use Rattle.script_fields.specs.Numbers.{longer, extended, andDigits, spelledNumber}
+use Rattle.script_fields.specs.Fields.{onFirst, pieces, spelledBytes, numbersOf, lineNumbers}
+use Rattle.script_lines.specs.declared.Language.the-variants as language
+use Rattle.script_lines.specs.Lines.{screenLine, paneLine, openLine, putLine, startLine, runLine, lookLine, pixelLine, byFurtherLetter, byLetter, lettered, lineOf}
+use Rattle.script_numerals.specs.Numerals.{numeral, listed}
+use Rattle.script_replies.specs.Replies.{replyText}
+use Rattle.script_session.specs.Desk.{made, restored, obeyed}
 use Rattle.script.specs.Scripts.{printed, answered}
 
 -- the bytes of a text

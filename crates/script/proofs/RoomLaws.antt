@@ -14,11 +14,11 @@ use Rattle.model.specs.declared.Pane.{Pane}
 use Rattle.model.specs.Setup.{screenBytes}
 use Rattle.model.specs.Calls.{State, Answer, Call, Request, put, start, run, look, pixel, peek, clear, onPane, rowOf, recordOf, storeOf, setupRefusal, refusal, withPane, accepted, refused, exec, setUp}
 use Rattle.model.proofs.Decisions.{split, cond-ind}
-use Rattle.fields.specs.Fields.{onFirst, pieces, lineFeed, linesOf}
-use Rattle.parser.specs.declared.Language.{Language}
-use Rattle.parser.specs.Lines.{Line, sizing, adding, opening, asking, malformed, lineOf}
-use Rattle.printer.proofs.LengthLaws.{Short, reply-length}
-use Rattle.session.specs.Desk.{Desk, Moved, unless, taken, withGeometry, withRow, nextRow, afterSetUp, mostScreen, mostStores, lent, made, restored, obeyed}
+use Rattle.script_fields.specs.Fields.{onFirst, pieces, lineFeed, linesOf}
+use Rattle.script_lines.specs.declared.Language.{Language}
+use Rattle.script_lines.specs.Lines.{Line, sizing, adding, opening, asking, malformed, lineOf}
+use Rattle.script_replies.proofs.LengthLaws.{Short, reply-length}
+use Rattle.script_session.specs.Desk.{Desk, Moved, unless, taken, withGeometry, withRow, nextRow, afterSetUp, mostScreen, mostStores, lent, made, restored, obeyed}
 use Rattle.script.specs.Scripts.{textOf, printed, empty, mostScript, room, answered}
 
 -- ## A line

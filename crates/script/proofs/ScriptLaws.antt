@@ -6,16 +6,16 @@ use native.Mathlib.Omega.{arith}
 use borrow.Author.Tests.{lt-ltb, le-ltb}
 use lib.ListN.{length, take, drop, length-drop}
 use lib.Seq.{drop-drop}
-use Rattle.fields.specs.Fields.{before, lineFeed, linesOf}
-use Rattle.parser.specs.declared.Language.{Language}
-use Rattle.parser.specs.Lines.{lineOf}
-use Rattle.fields.proofs.PieceLaws.{linesOf-next, linesOf-none}
+use Rattle.script_fields.specs.Fields.{before, lineFeed, linesOf}
+use Rattle.script_lines.specs.declared.Language.{Language}
+use Rattle.script_lines.specs.Lines.{lineOf}
+use Rattle.script_fields.proofs.PieceLaws.{linesOf-next, linesOf-none}
 use Rattle.model.proofs.Decisions.{cond-true, cond-false}
-use Rattle.numerals.specs.Numerals.{Wrote}
-use Rattle.printer.specs.Replies.{malformedText}
-use Rattle.numerals.proofs.WroteLaws.{Wrote-then, Wrote-none}
-use Rattle.session.specs.declared.Session.{Session}
-use Rattle.session.specs.Desk.{LineOutcome, Moved, desk, moved, begun, obeyed}
+use Rattle.script_numerals.specs.Numerals.{Wrote}
+use Rattle.script_replies.specs.Replies.{malformedText}
+use Rattle.script_numerals.proofs.WroteLaws.{Wrote-then, Wrote-none}
+use Rattle.script_session.specs.declared.Session.{Session}
+use Rattle.script_session.specs.Desk.{LineOutcome, Moved, desk, moved, begun, obeyed}
 use Rattle.script.specs.Scripts.{textOf, printed, empty, mostScript, answered}
 
 -- a script with lines left: the next, and those after its end

@@ -4,11 +4,11 @@ use mathlib.Core.Bool.{cond}
 use mathlib.Core.List.{List, [], _∷_, _++_}
 use lib.Dec.{ltb}
 use lib.ListN.{length, replicate}
-use Rattle.fields.specs.Fields.{linesOf}
-use Rattle.parser.specs.declared.Language.{Language}
-use Rattle.parser.specs.Lines.{lineOf}
-use Rattle.session.specs.Desk.{LineOutcome, question, silence, replying, Desk, desk, begun, obeyed, mostScreen, mostStores}
-use Rattle.printer.specs.Replies.{replyText, malformedText}
+use Rattle.script_fields.specs.Fields.{linesOf}
+use Rattle.script_lines.specs.declared.Language.{Language}
+use Rattle.script_lines.specs.Lines.{lineOf}
+use Rattle.script_session.specs.Desk.{LineOutcome, question, silence, replying, Desk, desk, begun, obeyed, mostScreen, mostStores}
+use Rattle.script_replies.specs.Replies.{replyText, malformedText}
 
 -- what a line prints: "?", nothing, or its reply
 abbrev pub textOf : LineOutcome → List ℕ

@@ -1,17 +1,17 @@
 // The script program on slices: lines in, replies out, in the language of `panes` or of `calls`. Each line is taken apart into what it says, obeyed, and its reply written: `answered`
 // (specs/Scripts.antt) is the definition of the whole program.
-use parser::Language;
-use session::Outcome;
-use session::Session;
-use session::Step;
+use script_lines::Language;
+use script_session::Outcome;
+use script_session::Session;
+use script_session::Step;
 ghost use mathlib.Core.Path.{_≡_};
 ghost use Prim.Native.Nat.{_≤_};
 ghost use lib.ListN.{length, take, replicate};
 ghost use Rattle.io.specs.Counts.{Counts};
-ghost use Rattle.fields.specs.Fields.{linesOf};
-ghost use Rattle.parser.specs.Lines.{lineOf, meant};
-ghost use Rattle.session.specs.Desk.{desk, leaves, outcomeOf, obeyed, begun};
-ghost use Rattle.numerals.specs.Numerals.{Wrote};
+ghost use Rattle.script_fields.specs.Fields.{linesOf};
+ghost use Rattle.script_lines.specs.Lines.{lineOf, meant};
+ghost use Rattle.script_session.specs.Desk.{desk, leaves, outcomeOf, obeyed, begun};
+ghost use Rattle.script_numerals.specs.Numerals.{Wrote};
 ghost use Rattle.script.specs.Scripts.{textOf, answered, printed, room};
 
 // The longest script.
@@ -26,7 +26,7 @@ pub fn answer(language: Language, script: &[u8], out: &mut [u8]) -> usize
     ensures { λ r. ⌜ (room ≤ length (now (out .entry)) → take r (now (out .exit)) ≡ answered language (now (script .entry))) ⌝ }
 {
     if script.len() > MOST_SCRIPT {
-        return printer::malformed(out, 0);
+        return script_replies::malformed(out, 0);
     }
     let mut screen = screen_room();
     let mut stores = stores_room();
@@ -82,11 +82,11 @@ fn lines(
     ensures { λ r. ⌜ take r (now (out .exit))
         ≡ take (length (now (out .entry))) (printed language (linesOf (now (script .entry))) (desk begun (now (screen .entry)) (now (stores .entry)))) ⌝ }
 {
-    let mut session = session::begun();
+    let mut session = script_session::begun();
     let mut written = 0;
     let mut from = 0;
     while from < script.len() {
-        let end = fields::line_end(script, from);
+        let end = script_fields::line_end(script, from);
         let next = end + 1;
         let step = one_line(
             language,
@@ -118,13 +118,13 @@ fn one_line(
     ensures { λ r. ⌜ leaves r (now (screen .exit)) (now (stores .exit))
         ≡ obeyed (lineOf language (now (line .entry))) (desk session (now (screen .entry)) (now (stores .entry))) ⌝ }
 {
-    let said = parser::parse(language, line, scratch);
+    let said = script_lines::parse(language, line, scratch);
     obey(said, screen, stores, scratch, session)
 }
 
 // Obeys what a line says. Before an accepted `o` only `s`, `p` and `o` are taken, after it only the calls.
 fn obey(
-    said: parser::Line,
+    said: script_lines::Line,
     screen: &mut [u8],
     stores: &mut [u8],
     scratch: &[u8],
@@ -134,9 +134,9 @@ fn obey(
         ≡ obeyed (meant said (now (scratch .entry))) (desk session (now (screen .entry)) (now (stores .entry))) ⌝ }
 {
     if session.opened {
-        return calling::obey(said, screen, stores, scratch, session);
+        return script_calls::obey(said, screen, stores, scratch, session);
     }
-    setting::obey(said, screen, stores, session)
+    script_setup::obey(said, screen, stores, session)
 }
 
 // What a line comes to, printed.
@@ -145,8 +145,8 @@ fn print(out: &mut [u8], at: usize, outcome: Outcome) -> usize
     ensures { λ r. ⌜ Wrote (now (out .entry)) at (textOf (outcomeOf outcome)) (now (out .exit)) r ⌝ }
 {
     match outcome {
-        Outcome::Malformed => printer::malformed(out, at),
+        Outcome::Malformed => script_replies::malformed(out, at),
         Outcome::Taken => at,
-        Outcome::Replied(letter, reply) => printer::reply(out, at, letter, reply),
+        Outcome::Replied(letter, reply) => script_replies::reply(out, at, letter, reply),
     }
 }

@@ -1,6 +1,6 @@
 // A script program: standard input to standard output. Nothing here says what is read or written; what a script's replies are is the contract
 // of script::answer.
-use parser::Language;
+use script_lines::Language;
 ghost use mathlib.Core.Path.{_≡_};
 ghost use lib.ListN.{length};
 

@@ -53,7 +53,7 @@ fn verdict_on(k: usize) -> Verdict
     let n = read.length;
     let m = due.length;
     let mut replies = script::room();
-    let written = script::answer(parser::Language::Panes, &script[..n], &mut replies);
+    let written = script::answer(script_lines::Language::Panes, &script[..n], &mut replies);
     if !check::same(&replies[..written], &expected[..m]) {
         return Verdict::Differs;
     }

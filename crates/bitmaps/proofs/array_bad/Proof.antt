@@ -4,12 +4,9 @@ use borrow.Author.Needs.{needs}
 use Rattle.bitmaps.proofs.array_bad.Statement.{statement}
 use Rattle.bitmaps.proofs.array_bad.Tie as tie
 
-bytes-bad-requires : tie.Need-bytes-bad-requires
-bytes-bad-requires c κs = search needs
-
 returns : tie.Need-returns
 unfolding arrayBad
 returns c = rw (c .bytes-bad .ensures)
 
 pub array-bad-spec : {M : Type 1} → statement M
-array-bad-spec = tie.close (tie.spec bytes-bad-requires returns)
+array-bad-spec = tie.close (tie.spec (λ c κs. search needs) returns)

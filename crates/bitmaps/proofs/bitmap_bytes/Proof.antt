@@ -12,15 +12,6 @@ row c = mul-le-mul {n₂ = 65536} {m₂ = 65535} (omega arith) (omega arith)
 all : (c : tie.After-row-words) → c .row-words .result * (c .before .args .ymax + 1) ≤ 268431360 * 65536
 all c = mul-le-mul {n₂ = 268431360} {m₂ = 65536} (omega (arith, row (c .before))) (omega arith)
 
-add-row-words : tie.Need-add-row-words
-add-row-words c = search needs
-
-row-words-requires : tie.Need-row-words-requires
-row-words-requires c κs = search needs
-
-add-result : tie.Need-add-result
-add-result c = search needs
-
 mul-result : tie.Need-mul-result
 mul-result c = omega (arith, all c)
 
@@ -33,4 +24,4 @@ returns c = (cc, omega (arith, all c))
 pub bitmap-bytes-spec : {M : Type 1} → statement M
 bitmap-bytes-spec =
     tie.close
-    (tie.spec add-row-words row-words-requires add-result mul-result mul-result-2 returns)
+    (tie.spec (λ c. search needs) (λ c κs. search needs) (λ c. search needs) mul-result mul-result-2 returns)

@@ -3,14 +3,8 @@ use borrow.Author.Needs.{needs}
 use Rattle.bitmaps.proofs.bytes_bad.Statement.{statement}
 use Rattle.bitmaps.proofs.bytes_bad.Tie as tie
 
-passes-end-requires : tie.Need-passes-end-requires
-passes-end-requires c κs = search needs
-
-touches-requires : tie.Need-touches-requires
-touches-requires c κs = search needs
-
 returns : tie.Need-returns
 returns c = rw (c .touches .ensures, c .before .passes-end .ensures)
 
 pub bytes-bad-spec : {M : Type 1} → statement M
-bytes-bad-spec = tie.close (tie.spec passes-end-requires touches-requires returns)
+bytes-bad-spec = tie.close (tie.spec (λ c κs. search needs) (λ c κs. search needs) returns)

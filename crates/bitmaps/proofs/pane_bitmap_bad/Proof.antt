@@ -4,15 +4,9 @@ use borrow.Author.Needs.{needs}
 use Rattle.bitmaps.proofs.pane_bitmap_bad.Statement.{statement}
 use Rattle.bitmaps.proofs.pane_bitmap_bad.Tie as tie
 
-add-result : tie.Need-add-result
-add-result c = search needs
-
-add-result-2 : tie.Need-add-result-2
-add-result-2 c = search needs
-
 returns : tie.Need-returns
 unfolding paneBitmapBad
 returns c = search needs
 
 pub pane-bitmap-bad-spec : {M : Type 1} → statement M
-pane-bitmap-bad-spec = tie.close (tie.spec add-result add-result-2 returns)
+pane-bitmap-bad-spec = tie.close (tie.spec (λ c. search needs) (λ c. search needs) returns)

@@ -11,8 +11,5 @@ mul-result c = omega (arith, mul-le-mul (c .pre .0) (c .pre .1))
 add-result : tie.Need-add-result
 add-result c = omega (arith, mul-le-mul (c .pre .0) (c .pre .1))
 
-returns : tie.Need-returns
-returns c = search needs
-
 pub row-words-spec : {M : Type 1} → statement M
-row-words-spec = tie.close (tie.spec mul-result add-result returns)
+row-words-spec = tie.close (tie.spec mul-result add-result (λ c. search needs))

@@ -4,21 +4,6 @@ use borrow.Author.Needs.{needs}
 use Rattle.bitmaps.proofs.rule_broken.Statement.{statement}
 use Rattle.bitmaps.proofs.rule_broken.Tie as tie
 
-enum-told : tie.Need-enum-told
-enum-told c = search needs
-
-enum-known-b : tie.Need-enum-known-b
-enum-known-b c = search needs
-
-pane-bitmap-bad-requires : tie.Need-pane-bitmap-bad-requires
-pane-bitmap-bad-requires c κs = search needs
-
-enum-known-b-2 : tie.Need-enum-known-b-2
-enum-known-b-2 c = search needs
-
-store-bitmap-bad-requires : tie.Need-store-bitmap-bad-requires
-store-bitmap-bad-requires c κs = search needs
-
 returns : tie.Need-returns
 unfolding ruleBroken
 returns c = search needs
@@ -35,11 +20,11 @@ pub rule-broken-spec : {M : Type 1} → statement M
 rule-broken-spec =
     tie.close
     (tie.spec
-    enum-told
-    enum-known-b
-    pane-bitmap-bad-requires
-    enum-known-b-2
-    store-bitmap-bad-requires
+    (λ c. search needs)
+    (λ c. search needs)
+    (λ c κs. search needs)
+    (λ c. search needs)
+    (λ c κs. search needs)
     returns
     returns-2
     returns-3)

@@ -5,24 +5,6 @@ use borrow.Author.Needs.{needs}
 use Rattle.bitmaps.proofs.touches.Statement.{statement}
 use Rattle.bitmaps.proofs.touches.Tie as tie
 
-enum-told : tie.Need-enum-told
-enum-told c = search needs
-
-enum-told-2 : tie.Need-enum-told-2
-enum-told-2 c = search needs
-
-enum-known-b : tie.Need-enum-known-b
-enum-known-b c = search needs
-
-cast-share-span : tie.Need-cast-share-span
-cast-share-span c = search needs
-
-bitmap-bytes-requires : tie.Need-bitmap-bytes-requires
-bitmap-bytes-requires c κs = search needs
-
-share-span-requires : tie.Need-share-span-requires
-share-span-requires c κs = search needs
-
 returns : tie.Need-returns
 unfolding touches
 returns c = search needs
@@ -39,12 +21,12 @@ pub touches-spec : {M : Type 1} → statement M
 touches-spec =
     tie.close
     (tie.spec
-    enum-told
-    enum-told-2
-    enum-known-b
-    cast-share-span
-    bitmap-bytes-requires
-    share-span-requires
+    (λ c. search needs)
+    (λ c. search needs)
+    (λ c. search needs)
+    (λ c. search needs)
+    (λ c κs. search needs)
+    (λ c κs. search needs)
     returns
     returns-2
     returns-3)

@@ -1,17 +1,11 @@
 -- Run lends the screen and the pane's part of the stores on, and replaces the pane's record by the one that the run left.
 use borrow.Author.Needs.{needs}
 use Rattle.model.specs.Calls.{rowOf, recordOf, part, inPart}
-use Rattle.answers.proofs.CallLaws.{exec-refused}
+use Rattle.call_common.proofs.CallLaws.{exec-refused}
 use Rattle.console.proofs.RanLaws.{sound, exec-idle, exec-ran}
-use Rattle.answers.proofs.AcceptedLaws.{admitted, room}
+use Rattle.call_common.proofs.AcceptedLaws.{admitted, room}
 use Rattle.console.proofs.run.Statement.{statement}
 use Rattle.console.proofs.run.Tie as tie
-
-call-refusal-requires : tie.Need-call-refusal-requires
-call-refusal-requires c κs = search needs
-
-refused-requires : tie.Need-refused-requires
-refused-requires c κs = search needs
 
 returns : tie.Need-returns
 returns c = exec-refused _ _ _ _ _ (c .refused .ensures) (c .before .before .call-refusal .ensures) (c .before .if1 .taken)
@@ -22,12 +16,6 @@ row-at-requires c κs = admitted _ _ _ _ (c .before .call-refusal .ensures) (c .
 record-at-requires : tie.Need-record-at-requires
 record-at-requires c κs = admitted _ _ _ _ (c .before .before .call-refusal .ensures) (c .before .if1 .left) .index
 
-run-refusal-requires : tie.Need-run-refusal-requires
-run-refusal-requires c κs = search needs
-
-refused-requires-2 : tie.Need-refused-requires-2
-refused-requires-2 c κs = search needs
-
 returns-2 : tie.Need-returns-2
 unfolding rowOf recordOf
 returns-2 c =
@@ -36,21 +24,6 @@ returns-2 c =
     let d = r .before in
     exec-idle _ _ _ (d .before .call-refusal .ensures) (d .if1 .left) _ (r .row-at .ensures) _ (p .record-at .ensures) _ _
     (c .refused2 .ensures) (c .before .before .run-refusal .ensures) (c .before .if2 .taken)
-
-cast-start : tie.Need-cast-start
-cast-start c = search needs
-
-cast-end : tie.Need-cast-end
-cast-end c = search needs
-
-add-end : tie.Need-add-end
-add-end c = search needs
-
-sub-run : tie.Need-sub-run
-sub-run c = search needs
-
-part-run-start : tie.Need-part-run-start
-part-run-start c = search needs
 
 part-run-end : tie.Need-part-run-end
 unfolding rowOf
@@ -72,12 +45,6 @@ with-record-requires c κs =
     let d = c .before .before .before .before .before .before .before .before .before .before .before .before .before in
     admitted _ _ _ _ (d .before .call-refusal .ensures) (d .if1 .left) .index
 
-same-length : tie.Need-same-length
-same-length c = search needs
-
-same-length-2 : tie.Need-same-length-2
-same-length-2 c = search needs
-
 returns-3 : tie.Need-returns-3
 unfolding rowOf recordOf part inPart
 returns-3 c =
@@ -94,22 +61,22 @@ pub run-spec : {M : Type 1} → statement M
 run-spec =
     tie.close
     (tie.spec
-    call-refusal-requires
-    refused-requires
+    (λ c κs. search needs)
+    (λ c κs. search needs)
     returns
     row-at-requires
     record-at-requires
-    run-refusal-requires
-    refused-requires-2
+    (λ c κs. search needs)
+    (λ c κs. search needs)
     returns-2
-    cast-start
-    cast-end
-    add-end
-    sub-run
-    part-run-start
+    (λ c. search needs)
+    (λ c. search needs)
+    (λ c. search needs)
+    (λ c. search needs)
+    (λ c. search needs)
     part-run-end
     run-requires
     with-record-requires
-    same-length
-    same-length-2
+    (λ c. search needs)
+    (λ c. search needs)
     returns-3)

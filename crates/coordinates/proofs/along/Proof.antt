@@ -12,15 +12,6 @@ use Rattle.coordinates.proofs.SignedLaws.{mag-coord, small32, pos32, su
 use Rattle.coordinates.proofs.along.Statement.{statement}
 use Rattle.coordinates.proofs.along.Tie as tie
 
-signed-requires : tie.Need-signed-requires
-signed-requires c κs = search needs
-
-cast-result : tie.Need-cast-result
-cast-result c = search needs
-
-cast-result-2 : tie.Need-cast-result-2
-cast-result-2 c = search needs
-
 module _ (c : tie.After-signed) where
   from-small : mag (c .signed .result) < 32768
   from-small = rw (c .signed .ensures) (mag-coord (c .before .args .at) (c .before .fits .at .fits))
@@ -50,4 +41,4 @@ returns-2 : tie.Need-returns-2
 returns-2 c = rw (from-read (c .before), k-read (c .before), toZ-ofZ {w = w32} (add-fits (c .before)), ← c .before .signed .ensures, c .if1 .left)
 
 pub along-spec : {M : Type 1} → statement M
-along-spec = tie.close (tie.spec signed-requires cast-result sub-result cast-result-2 add-result returns returns-2)
+along-spec = tie.close (tie.spec (λ c κs. search needs) (λ c. search needs) sub-result (λ c. search needs) add-result returns returns-2)

@@ -13,9 +13,6 @@ use Rattle.coordinates.proofs.SignedLaws.{mag-coord, negated, natAbs-ma
 use Rattle.coordinates.proofs.magnitude.Statement.{statement}
 use Rattle.coordinates.proofs.magnitude.Tie as tie
 
-signed-requires : tie.Need-signed-requires
-signed-requires c κs = search needs
-
 small : (c : tie.After-signed) → mag (c .signed .result) < 32768
 small c = rw (c .signed .ensures) (mag-coord (c .before .args .d) (c .before .fits .d .fits))
 
@@ -56,4 +53,4 @@ returns-2 c =
     (ap natAbs (c .before .signed .ensures), omega (arith, small (c .before), natAbs-mag (c .before .signed .result)))
 
 pub magnitude-spec : {M : Type 1} → statement M
-magnitude-spec = tie.close (tie.spec signed-requires sub-result cast-result cast-result-2 returns returns-2)
+magnitude-spec = tie.close (tie.spec (λ c κs. search needs) sub-result cast-result cast-result-2 returns returns-2)

@@ -6,12 +6,6 @@ use Rattle.model.proofs.CodeLaws.{wrap-add}
 use Rattle.coordinates.proofs.move_by.Statement.{statement}
 use Rattle.coordinates.proofs.move_by.Tie as tie
 
-wrapping-add-u16-requires : tie.Need-wrapping-add-u16-requires
-wrapping-add-u16-requires c κs = search needs
-
-wrapping-add-u16-requires-2 : tie.Need-wrapping-add-u16-requires-2
-wrapping-add-u16-requires-2 c κs = search needs
-
 returns : tie.Need-returns
 returns c =
     let px : c .before .before .args .p .x < 65536 = search needs in
@@ -21,4 +15,4 @@ returns c =
     rw (c .before .wrapping-add-u16 .ensures, c .wrapping-add-u162 .ensures) (λ i. record { x = sym (wrap-add _ _ px bx) i; y = sym (wrap-add _ _ py by) i })
 
 pub move-by-spec : {M : Type 1} → statement M
-move-by-spec = tie.close (tie.spec wrapping-add-u16-requires wrapping-add-u16-requires-2 returns)
+move-by-spec = tie.close (tie.spec (λ c κs. search needs) (λ c κs. search needs) returns)

@@ -11,12 +11,6 @@ use Rattle.coordinates.proofs.SignedLaws.{coord-low, coord-difference, 
 use Rattle.coordinates.proofs.signed.Statement.{statement}
 use Rattle.coordinates.proofs.signed.Tie as tie
 
-cast-result : tie.Need-cast-result
-cast-result c = search needs
-
-cast-result-2 : tie.Need-cast-result-2
-cast-result-2 c = search needs
-
 -- the pattern as the machine reads it back
 read : (c : tie.Else1) → toZ w32 (c .before .args .p) ≡ pos (c .before .args .p)
 read c = pos32 (c .before .args .p) (omega arith)
@@ -35,4 +29,4 @@ returns-2 c =
     rw (read c) (toZ-ofZ {w = w32} (difference-fits (c .before .args .p) (c .if1 .left) (omega arith)) ∙ coord-difference (c .before .args .p) (c .if1 .left) (omega arith))
 
 pub signed-spec : {M : Type 1} → statement M
-signed-spec = tie.close (tie.spec cast-result cast-result-2 sub-result returns returns-2)
+signed-spec = tie.close (tie.spec (λ c. search needs) (λ c. search needs) sub-result returns returns-2)

@@ -13,15 +13,6 @@ use Rattle.coordinates.proofs.SignedLaws.{small32, pos32, spot-low, spo
 use Rattle.coordinates.proofs.spot_between.Statement.{statement}
 use Rattle.coordinates.proofs.spot_between.Tie as tie
 
-along-requires : tie.Need-along-requires
-along-requires c κs = search needs
-
-cast-if1 : tie.Need-cast-if1
-cast-if1 c = search needs
-
-cast-if2 : tie.Need-cast-if2
-cast-if2 c = search needs
-
 -- the numbers as the machine reads them back
 module _ (c : tie.After-along) where
   z-read : toZ w32 (ofZ w32 (c .along .result)) ≡ c .along .result
@@ -57,4 +48,4 @@ returns-3 c = rw (z-read (c .before .before))
 
 pub spot-between-spec : {M : Type 1} → statement M
 spot-between-spec =
-    tie.close (tie.spec along-requires cast-if1 returns cast-if2 returns-2 cast-t9 returns-3)
+    tie.close (tie.spec (λ c κs. search needs) (λ c. search needs) returns (λ c. search needs) returns-2 cast-t9 returns-3)

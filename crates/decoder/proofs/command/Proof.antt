@@ -14,32 +14,14 @@ enum-told c = search needs
 address-requires : tie.Need-address-requires
 address-requires c κs = omega (arith, ap wordCount (c .enum-told .given .1))
 
-enum-told-2 : tie.Need-enum-told-2
-enum-told-2 c = search needs
-
-enum-known-op : tie.Need-enum-known-op
-enum-known-op c = search needs
-
 parameter-requires : tie.Need-parameter-requires
 parameter-requires c κs = omega (arith, ap wordCount (c .before .op .given .1))
-
-enum-known-op-2 : tie.Need-enum-known-op-2
-enum-known-op-2 c = search needs
 
 address-requires-2 : tie.Need-address-requires-2
 address-requires-2 c κs = omega (arith, ap wordCount (c .before .op2 .given .1))
 
-enum-told-3 : tie.Need-enum-told-3
-enum-told-3 c = search needs
-
 address-requires-3 : tie.Need-address-requires-3
 address-requires-3 c κs = omega (arith, ap wordCount (c .enum-told3 .given .1))
-
-enum-told-4 : tie.Need-enum-told-4
-enum-told-4 c = search needs
-
-enum-told-5 : tie.Need-enum-told-5
-enum-told-5 c = search needs
 
 address-requires-4 : tie.Need-address-requires-4
 address-requires-4 c κs = omega (arith, ap wordCount (c .enum-told5 .given .1))
@@ -53,32 +35,17 @@ parameter-requires-3 c κs = omega (arith, ap wordCount (c .before .before .enum
 parameter-requires-4 : tie.Need-parameter-requires-4
 parameter-requires-4 c κs = omega (arith, ap wordCount (c .before .before .before .enum-told5 .given .1))
 
-enum-told-6 : tie.Need-enum-told-6
-enum-told-6 c = search needs
-
 parameter-requires-5 : tie.Need-parameter-requires-5
 parameter-requires-5 c κs = omega (arith, ap wordCount (c .enum-told6 .given .1))
 
 parameter-requires-6 : tie.Need-parameter-requires-6
 parameter-requires-6 c κs = omega (arith, ap wordCount (c .before .enum-told6 .given .1))
 
-enum-told-7 : tie.Need-enum-told-7
-enum-told-7 c = search needs
-
 parameter-requires-7 : tie.Need-parameter-requires-7
 parameter-requires-7 c κs = omega (arith, ap wordCount (c .enum-told7 .given .1))
 
 parameter-requires-8 : tie.Need-parameter-requires-8
 parameter-requires-8 c κs = omega (arith, ap wordCount (c .before .enum-told7 .given .1))
-
-enum-told-8 : tie.Need-enum-told-8
-enum-told-8 c = search needs
-
-enum-told-9 : tie.Need-enum-told-9
-enum-told-9 c = search needs
-
-enum-told-10 : tie.Need-enum-told-10
-enum-told-10 c = search needs
 
 parameter-requires-9 : tie.Need-parameter-requires-9
 parameter-requires-9 c κs = omega (arith, ap wordCount (c .enum-told10 .given .1))
@@ -92,20 +59,11 @@ parameter-requires-11 c κs = omega (arith, ap wordCount (c .before .before .enu
 parameter-requires-12 : tie.Need-parameter-requires-12
 parameter-requires-12 c κs = omega (arith, ap wordCount (c .before .before .before .enum-told10 .given .1))
 
-enum-told-11 : tie.Need-enum-told-11
-enum-told-11 c = search needs
-
 parameter-requires-13 : tie.Need-parameter-requires-13
 parameter-requires-13 c κs = omega (arith, ap wordCount (c .enum-told11 .given .1))
 
-enum-told-12 : tie.Need-enum-told-12
-enum-told-12 c = search needs
-
 parameter-requires-14 : tie.Need-parameter-requires-14
 parameter-requires-14 c κs = omega (arith, ap wordCount (c .enum-told12 .given .1))
-
-enum-told-13 : tie.Need-enum-told-13
-enum-told-13 c = search needs
 
 parameter-requires-15 : tie.Need-parameter-requires-15
 parameter-requires-15 c κs = omega (arith, ap wordCount (c .enum-told13 .given .1))
@@ -113,17 +71,11 @@ parameter-requires-15 c κs = omega (arith, ap wordCount (c .enum-told13 .given 
 parameter-requires-16 : tie.Need-parameter-requires-16
 parameter-requires-16 c κs = omega (arith, ap wordCount (c .before .enum-told13 .given .1))
 
-enum-told-14 : tie.Need-enum-told-14
-enum-told-14 c = search needs
-
 parameter-requires-17 : tie.Need-parameter-requires-17
 parameter-requires-17 c κs = omega (arith, ap wordCount (c .enum-told14 .given .1))
 
 parameter-requires-18 : tie.Need-parameter-requires-18
 parameter-requires-18 c κs = omega (arith, ap wordCount (c .before .enum-told14 .given .1))
-
-enum-told-15 : tie.Need-enum-told-15
-enum-told-15 c = search needs
 
 parameter-requires-19 : tie.Need-parameter-requires-19
 parameter-requires-19 c κs = omega (arith, ap wordCount (c .enum-told15 .given .1))
@@ -131,26 +83,17 @@ parameter-requires-19 c κs = omega (arith, ap wordCount (c .enum-told15 .given 
 parameter-requires-20 : tie.Need-parameter-requires-20
 parameter-requires-20 c κs = omega (arith, ap wordCount (c .before .enum-told15 .given .1))
 
-enum-told-16 : tie.Need-enum-told-16
-enum-told-16 c = search needs
-
 parameter-requires-21 : tie.Need-parameter-requires-21
 parameter-requires-21 c κs = omega (arith, ap wordCount (c .enum-told16 .given .1))
 
 parameter-requires-22 : tie.Need-parameter-requires-22
 parameter-requires-22 c κs = omega (arith, ap wordCount (c .before .enum-told16 .given .1))
 
-enum-told-17 : tie.Need-enum-told-17
-enum-told-17 c = search needs
-
 parameter-requires-23 : tie.Need-parameter-requires-23
 parameter-requires-23 c κs = omega (arith, ap wordCount (c .enum-told17 .given .1))
 
 parameter-requires-24 : tie.Need-parameter-requires-24
 parameter-requires-24 c κs = omega (arith, ap wordCount (c .before .enum-told17 .given .1))
-
-enum-told-18 : tie.Need-enum-told-18
-enum-told-18 c = search needs
 
 parameter-requires-25 : tie.Need-parameter-requires-25
 parameter-requires-25 c κs = omega (arith, ap wordCount (c .enum-told18 .given .1))
@@ -164,26 +107,17 @@ parameter-requires-27 c κs = omega (arith, ap wordCount (c .before .before .enu
 parameter-requires-28 : tie.Need-parameter-requires-28
 parameter-requires-28 c κs = omega (arith, ap wordCount (c .before .before .before .enum-told18 .given .1))
 
-enum-told-19 : tie.Need-enum-told-19
-enum-told-19 c = search needs
-
 address-requires-5 : tie.Need-address-requires-5
 address-requires-5 c κs = omega (arith, ap wordCount (c .enum-told19 .given .1))
 
 parameter-requires-29 : tie.Need-parameter-requires-29
 parameter-requires-29 c κs = omega (arith, ap wordCount (c .before .enum-told19 .given .1))
 
-enum-known-op-3 : tie.Need-enum-known-op-3
-enum-known-op-3 c = search needs
-
 address-requires-6 : tie.Need-address-requires-6
 address-requires-6 c κs = omega (arith, ap wordCount (c .before .op3 .given .1))
 
 parameter-requires-30 : tie.Need-parameter-requires-30
 parameter-requires-30 c κs = omega (arith, ap wordCount (c .before .before .op3 .given .1))
-
-enum-told-20 : tie.Need-enum-told-20
-enum-told-20 c = search needs
 
 address-requires-7 : tie.Need-address-requires-7
 address-requires-7 c κs = omega (arith, ap wordCount (c .enum-told20 .given .1))
@@ -205,9 +139,6 @@ parameter-requires-35 c κs = omega (arith, ap wordCount (c .before .before .bef
 
 parameter-requires-36 : tie.Need-parameter-requires-36
 parameter-requires-36 c κs = omega (arith, ap wordCount (c .before .before .before .before .before .before .enum-told20 .given .1))
-
-enum-told-21 : tie.Need-enum-told-21
-enum-told-21 c = search needs
 
 address-requires-8 : tie.Need-address-requires-8
 address-requires-8 c κs = omega (arith, ap wordCount (c .enum-told21 .given .1))
@@ -317,63 +248,63 @@ command-spec =
     (tie.spec
     enum-told
     address-requires
-    enum-told-2
-    enum-known-op
+    (λ c. search needs)
+    (λ c. search needs)
     parameter-requires
-    enum-known-op-2
+    (λ c. search needs)
     address-requires-2
-    enum-told-3
+    (λ c. search needs)
     address-requires-3
-    enum-told-4
-    enum-told-5
+    (λ c. search needs)
+    (λ c. search needs)
     address-requires-4
     parameter-requires-2
     parameter-requires-3
     parameter-requires-4
-    enum-told-6
+    (λ c. search needs)
     parameter-requires-5
     parameter-requires-6
-    enum-told-7
+    (λ c. search needs)
     parameter-requires-7
     parameter-requires-8
-    enum-told-8
-    enum-told-9
-    enum-told-10
+    (λ c. search needs)
+    (λ c. search needs)
+    (λ c. search needs)
     parameter-requires-9
     parameter-requires-10
     parameter-requires-11
     parameter-requires-12
-    enum-told-11
+    (λ c. search needs)
     parameter-requires-13
-    enum-told-12
+    (λ c. search needs)
     parameter-requires-14
-    enum-told-13
+    (λ c. search needs)
     parameter-requires-15
     parameter-requires-16
-    enum-told-14
+    (λ c. search needs)
     parameter-requires-17
     parameter-requires-18
-    enum-told-15
+    (λ c. search needs)
     parameter-requires-19
     parameter-requires-20
-    enum-told-16
+    (λ c. search needs)
     parameter-requires-21
     parameter-requires-22
-    enum-told-17
+    (λ c. search needs)
     parameter-requires-23
     parameter-requires-24
-    enum-told-18
+    (λ c. search needs)
     parameter-requires-25
     parameter-requires-26
     parameter-requires-27
     parameter-requires-28
-    enum-told-19
+    (λ c. search needs)
     address-requires-5
     parameter-requires-29
-    enum-known-op-3
+    (λ c. search needs)
     address-requires-6
     parameter-requires-30
-    enum-told-20
+    (λ c. search needs)
     address-requires-7
     parameter-requires-31
     parameter-requires-32
@@ -381,7 +312,7 @@ command-spec =
     parameter-requires-34
     parameter-requires-35
     parameter-requires-36
-    enum-told-21
+    (λ c. search needs)
     address-requires-8
     parameter-requires-37
     returns

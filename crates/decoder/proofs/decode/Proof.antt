@@ -36,9 +36,6 @@ fetched : (c : tie.Else2) →
 unfolding decode
 fetched c = simp (c .before .before .before .if1 .left, ← c .before .before .word .ensures, ← c .before .ends .ensures, c .if2 .left)
 
-add-if1 : tie.Need-add-if1
-add-if1 c = search needs
-
 returns : tie.Need-returns
 unfolding decode
 returns c = rw (c .if1 .taken)
@@ -46,22 +43,10 @@ returns c = rw (c .if1 .taken)
 word-requires : tie.Need-word-requires
 word-requires c κs = let h = inside c in omega arith
 
-ends-requires : tie.Need-ends-requires
-ends-requires c κs = search needs
-
 returns-2 : tie.Need-returns-2
 unfolding decode
 returns-2 c =
     simp (c .before .before .before .if1 .left, ← c .before .before .word .ensures, ← c .before .ends .ensures, c .if2 .taken)
-
-cast-shape : tie.Need-cast-shape
-cast-shape c = search needs
-
-shape-requires : tie.Need-shape-requires
-shape-requires c κs = search needs
-
-enum-known-op : tie.Need-enum-known-op
-enum-known-op c = search needs
 
 enum-told : tie.Need-enum-told
 enum-told c = search needs
@@ -69,18 +54,6 @@ enum-told c = search needs
 returns-3 : tie.Need-returns-3
 unfolding fetch
 returns-3 c = rw (fetched (c .before .before .before), ← c .before .before .shape .ensures, c .enum-told .given .1)
-
-add-next : tie.Need-add-next
-add-next c = search needs
-
-cast-next : tie.Need-cast-next
-cast-next c = search needs
-
-mul-next : tie.Need-mul-next
-mul-next c = search needs
-
-add-next-2 : tie.Need-add-next-2
-add-next-2 c = search needs
 
 returns-4 : tie.Need-returns-4
 unfolding fetch
@@ -102,9 +75,6 @@ command-requires c κs =
     (sym (c .before .before .before .before .shape .ensures) ∙ c .before .before .op .given .1) in
     rw (← count) (omega arith)
 
-cast-t19 : tie.Need-cast-t19
-cast-t19 c = search needs
-
 returns-5 : tie.Need-returns-5
 unfolding fetch
 returns-5 c =
@@ -120,21 +90,21 @@ pub decode-spec : {M : Type 1} → statement M
 decode-spec =
     tie.close
     (tie.spec
-    add-if1
+    (λ c. search needs)
     returns
     word-requires
-    ends-requires
+    (λ c κs. search needs)
     returns-2
-    cast-shape
-    shape-requires
-    enum-known-op
+    (λ c. search needs)
+    (λ c κs. search needs)
+    (λ c. search needs)
     enum-told
     returns-3
-    add-next
-    cast-next
-    mul-next
-    add-next-2
+    (λ c. search needs)
+    (λ c. search needs)
+    (λ c. search needs)
+    (λ c. search needs)
     returns-4
     command-requires
-    cast-t19
+    (λ c. search needs)
     returns-5)

@@ -6,14 +6,8 @@ use borrow.Author.Needs.{needs}
 use Rattle.faults.proofs.bitmap_fault.Statement.{statement}
 use Rattle.faults.proofs.bitmap_fault.Tie as tie
 
-rule-broken-requires : tie.Need-rule-broken-requires
-rule-broken-requires c κs = search needs
-
-refuse-requires : tie.Need-refuse-requires
-refuse-requires c κs = search needs
-
 returns : tie.Need-returns
 returns c = c .refuse .ensures ∙ ap (λ (b : Bool). cond b faultBitmap 0) (c .before .rule-broken .ensures)
 
 pub bitmap-fault-spec : {M : Type 1} → statement M
-bitmap-fault-spec = tie.close (tie.spec rule-broken-requires refuse-requires returns)
+bitmap-fault-spec = tie.close (tie.spec (λ c κs. search needs) (λ c κs. search needs) returns)

@@ -8,21 +8,6 @@ use borrow.Author.Needs.{needs}
 use Rattle.faults.proofs.char_fault.Statement.{statement}
 use Rattle.faults.proofs.char_fault.Tie as tie
 
-char-bad-requires : tie.Need-char-bad-requires
-char-bad-requires c κs = search needs
-
-no-font-requires : tie.Need-no-font-requires
-no-font-requires c κs = search needs
-
-refuse-requires : tie.Need-refuse-requires
-refuse-requires c κs = search needs
-
-refuse-requires-2 : tie.Need-refuse-requires-2
-refuse-requires-2 c κs = search needs
-
-draw-fault-requires : tie.Need-draw-fault-requires
-draw-fault-requires c κs = search needs
-
 returns : tie.Need-returns
 returns c =
     c .draw-fault .ensures
@@ -35,9 +20,9 @@ pub char-fault-spec : {M : Type 1} → statement M
 char-fault-spec =
     tie.close
     (tie.spec
-    char-bad-requires
-    no-font-requires
-    refuse-requires
-    refuse-requires-2
-    draw-fault-requires
+    (λ c κs. search needs)
+    (λ c κs. search needs)
+    (λ c κs. search needs)
+    (λ c κs. search needs)
+    (λ c κs. search needs)
     returns)

@@ -8,17 +8,11 @@ use borrow.Author.Needs.{needs}
 use Rattle.faults.proofs.copy_fault.Statement.{statement}
 use Rattle.faults.proofs.copy_fault.Tie as tie
 
-rule-broken-requires : tie.Need-rule-broken-requires
-rule-broken-requires c κs = search needs
-
 returns : tie.Need-returns
 returns c = rw (sym (c .before .rule-broken .ensures) ∙ c .if1 .taken)
 
 surface-of-requires : tie.Need-surface-of-requires
 surface-of-requires c κs = placed-sizes (c .before .before .pre .0 .placed)
-
-block-bad-requires : tie.Need-block-bad-requires
-block-bad-requires c κs = search needs
 
 returns-2 : tie.Need-returns-2
 returns-2 c =
@@ -31,9 +25,6 @@ sharing-requires c κs = (
   sym (c .before .block-bad .ensures) ∙ c .if2 .left,
 )
 
-refuse-requires : tie.Need-refuse-requires
-refuse-requires c κs = search needs
-
 returns-3 : tie.Need-returns-3
 returns-3 c =
     c .refuse .ensures
@@ -45,11 +36,11 @@ pub copy-fault-spec : {M : Type 1} → statement M
 copy-fault-spec =
     tie.close
     (tie.spec
-    rule-broken-requires
+    (λ c κs. search needs)
     returns
     surface-of-requires
-    block-bad-requires
+    (λ c κs. search needs)
     returns-2
     sharing-requires
-    refuse-requires
+    (λ c κs. search needs)
     returns-3)

@@ -6,14 +6,8 @@ use borrow.Author.Needs.{needs}
 use Rattle.faults.proofs.draw_fault.Statement.{statement}
 use Rattle.faults.proofs.draw_fault.Tie as tie
 
-no-bitmap-requires : tie.Need-no-bitmap-requires
-no-bitmap-requires c κs = search needs
-
-refuse-requires : tie.Need-refuse-requires
-refuse-requires c κs = search needs
-
 returns : tie.Need-returns
 returns c = c .refuse .ensures ∙ ap (λ (b : Bool). cond b faultNoBitmap (c .before .before .args .rest)) (c .before .no-bitmap .ensures)
 
 pub draw-fault-spec : {M : Type 1} → statement M
-draw-fault-spec = tie.close (tie.spec no-bitmap-requires refuse-requires returns)
+draw-fault-spec = tie.close (tie.spec (λ c κs. search needs) (λ c κs. search needs) returns)

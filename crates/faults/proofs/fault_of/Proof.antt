@@ -15,133 +15,22 @@ use Rattle.faults.proofs.fault_of.Tie as tie
 enum-told : tie.Need-enum-told
 enum-told c = search needs
 
-enum-told-2 : tie.Need-enum-told-2
-enum-told-2 c = search needs
-
-enum-told-3 : tie.Need-enum-told-3
-enum-told-3 c = search needs
-
-enum-known-c : tie.Need-enum-known-c
-enum-known-c c = search needs
-
-font-fault-requires : tie.Need-font-fault-requires
-font-fault-requires c κs = search needs
-
-enum-told-4 : tie.Need-enum-told-4
-enum-told-4 c = search needs
-
-call-fault-requires : tie.Need-call-fault-requires
-call-fault-requires c κs = search needs
-
-enum-told-5 : tie.Need-enum-told-5
-enum-told-5 c = search needs
-
-return-fault-requires : tie.Need-return-fault-requires
-return-fault-requires c κs = search needs
-
-enum-known-c-2 : tie.Need-enum-known-c-2
-enum-known-c-2 c = search needs
-
-bitmap-of-requires : tie.Need-bitmap-of-requires
-bitmap-of-requires c κs = search needs
-
-bitmap-fault-requires : tie.Need-bitmap-fault-requires
-bitmap-fault-requires c κs = search needs
-
-enum-told-6 : tie.Need-enum-told-6
-enum-told-6 c = search needs
-
-enum-told-7 : tie.Need-enum-told-7
-enum-told-7 c = search needs
-
-enum-told-8 : tie.Need-enum-told-8
-enum-told-8 c = search needs
-
-enum-told-9 : tie.Need-enum-told-9
-enum-told-9 c = search needs
-
-enum-known-c-3 : tie.Need-enum-known-c-3
-enum-known-c-3 c = search needs
-
-clip-fault-requires : tie.Need-clip-fault-requires
-clip-fault-requires c κs = search needs
-
-enum-told-10 : tie.Need-enum-told-10
-enum-told-10 c = search needs
-
-enum-told-11 : tie.Need-enum-told-11
-enum-told-11 c = search needs
-
-enum-told-12 : tie.Need-enum-told-12
-enum-told-12 c = search needs
-
-enum-told-13 : tie.Need-enum-told-13
-enum-told-13 c = search needs
-
-enum-told-14 : tie.Need-enum-told-14
-enum-told-14 c = search needs
-
-draw-fault-requires : tie.Need-draw-fault-requires
-draw-fault-requires c κs = search needs
-
-enum-told-15 : tie.Need-enum-told-15
-enum-told-15 c = search needs
-
-draw-fault-requires-2 : tie.Need-draw-fault-requires-2
-draw-fault-requires-2 c κs = search needs
-
-enum-told-16 : tie.Need-enum-told-16
-enum-told-16 c = search needs
-
-draw-fault-requires-3 : tie.Need-draw-fault-requires-3
-draw-fault-requires-3 c κs = search needs
-
-enum-known-c-4 : tie.Need-enum-known-c-4
-enum-known-c-4 c = search needs
-
 block-fault-requires : tie.Need-block-fault-requires
 block-fault-requires c κs = placed-sizes (c .before .before .before .before .before .before .pre .0 .placed)
 
-enum-known-c-5 : tie.Need-enum-known-c-5
-enum-known-c-5 c = search needs
-
-cast-array-fault : tie.Need-cast-array-fault
-cast-array-fault c = search needs
-
-mul-array-fault : tie.Need-mul-array-fault
-mul-array-fault c = search needs
-
 array-fault-requires : tie.Need-array-fault-requires
 array-fault-requires c κs = (subst Addressed (c .before .c5 .given .1) (c .before .before .before .before .before .before .pre .1) _ pairsAt, omega arith)
-
-enum-known-c-6 : tie.Need-enum-known-c-6
-enum-known-c-6 c = search needs
 
 char-fault-requires : tie.Need-char-fault-requires
 char-fault-requires c κs =
     let s = c .before .before .before .before .before .before .pre .0 in
     record { long = s .placed .part; base = s .good .text .font; small = subst Addressed (c .before .c6 .given .1) (c .before .before .before .before .before .before .pre .1) _ stringAt }
 
-enum-known-c-7 : tie.Need-enum-known-c-7
-enum-known-c-7 c = search needs
-
 source-of-requires : tie.Need-source-of-requires
 source-of-requires c κs = sound-active (c .before .before .before .before .before .before .pre .0)
 
 copy-fault-requires : tie.Need-copy-fault-requires
 copy-fault-requires c κs = (sound-active (c .before .before .before .before .before .before .before .pre .0), c .source-of .ensures .1)
-
-draw-fault-requires-4 : tie.Need-draw-fault-requires-4
-draw-fault-requires-4 c κs = search needs
-
-enum-known-c-8 : tie.Need-enum-known-c-8
-enum-known-c-8 c = search needs
-
-cast-array-fault-2 : tie.Need-cast-array-fault-2
-cast-array-fault-2 c = search needs
-
-mul-array-fault-2 : tie.Need-mul-array-fault-2
-mul-array-fault-2 c = search needs
 
 array-fault-requires-2 : tie.Need-array-fault-requires-2
 array-fault-requires-2 c κs = (subst Addressed (c .before .c8 .given .1) (c .before .before .before .before .before .before .pre .1) _ triplesAt, omega arith)
@@ -249,48 +138,48 @@ fault-of-spec =
     tie.close
     (tie.spec
     enum-told
-    enum-told-2
-    enum-told-3
-    enum-known-c
-    font-fault-requires
-    enum-told-4
-    call-fault-requires
-    enum-told-5
-    return-fault-requires
-    enum-known-c-2
-    bitmap-of-requires
-    bitmap-fault-requires
-    enum-told-6
-    enum-told-7
-    enum-told-8
-    enum-told-9
-    enum-known-c-3
-    clip-fault-requires
-    enum-told-10
-    enum-told-11
-    enum-told-12
-    enum-told-13
-    enum-told-14
-    draw-fault-requires
-    enum-told-15
-    draw-fault-requires-2
-    enum-told-16
-    draw-fault-requires-3
-    enum-known-c-4
+    (λ c. search needs)
+    (λ c. search needs)
+    (λ c. search needs)
+    (λ c κs. search needs)
+    (λ c. search needs)
+    (λ c κs. search needs)
+    (λ c. search needs)
+    (λ c κs. search needs)
+    (λ c. search needs)
+    (λ c κs. search needs)
+    (λ c κs. search needs)
+    (λ c. search needs)
+    (λ c. search needs)
+    (λ c. search needs)
+    (λ c. search needs)
+    (λ c. search needs)
+    (λ c κs. search needs)
+    (λ c. search needs)
+    (λ c. search needs)
+    (λ c. search needs)
+    (λ c. search needs)
+    (λ c. search needs)
+    (λ c κs. search needs)
+    (λ c. search needs)
+    (λ c κs. search needs)
+    (λ c. search needs)
+    (λ c κs. search needs)
+    (λ c. search needs)
     block-fault-requires
-    enum-known-c-5
-    cast-array-fault
-    mul-array-fault
+    (λ c. search needs)
+    (λ c. search needs)
+    (λ c. search needs)
     array-fault-requires
-    enum-known-c-6
+    (λ c. search needs)
     char-fault-requires
-    enum-known-c-7
+    (λ c. search needs)
     source-of-requires
     copy-fault-requires
-    draw-fault-requires-4
-    enum-known-c-8
-    cast-array-fault-2
-    mul-array-fault-2
+    (λ c κs. search needs)
+    (λ c. search needs)
+    (λ c. search needs)
+    (λ c. search needs)
     array-fault-requires-2
     returns
     returns-2

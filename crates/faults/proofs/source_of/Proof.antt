@@ -6,7 +6,7 @@ use Rattle.model.specs.declared.Bitmap.{Bitmap}
 use Rattle.model.specs.declared.Surface.{Surface}
 use Rattle.model.specs.Bitmaps.{bitmapOf, surfaceOf}
 use Rattle.model.specs.Faults.{noBitmap}
-use Rattle.copies.proofs.SourceLaws.{source-named}
+use Rattle.draw_copies.proofs.SourceLaws.{source-named}
 use Rattle.faults.proofs.SoundLaws.{placed-sizes, active-bits}
 use borrow.Author.Needs.{needs}
 use Rattle.faults.proofs.source_of.Statement.{statement}
@@ -20,9 +20,6 @@ cast-bitmap-of c =
     let bits : c .before .surface-of .result .bits ≡ surfaceOf (c .before .before .args .g) (c .before .before .args .r) (c .before .before .args .active) .bits = ap (λ (s : Surface). s .bits) (c .before .surface-of .ensures) in
     omega (arith, bits, active-bits _ _ _ (c .before .before .pre))
 
-bitmap-of-requires : tie.Need-bitmap-of-requires
-bitmap-of-requires c κs = search needs
-
 returns : tie.Need-returns
 returns c =
     let a = c .before .before .before .args in
@@ -31,4 +28,4 @@ returns c =
     (is, subst (λ (b : Bitmap). noBitmap b ≡ false) (sym is) (source-named (a .address) (a .xmax) (a .ymax) bits))
 
 pub source-of-spec : {M : Type 1} → statement M
-source-of-spec = tie.close (tie.spec surface-of-requires cast-bitmap-of bitmap-of-requires returns)
+source-of-spec = tie.close (tie.spec surface-of-requires cast-bitmap-of (λ c κs. search needs) returns)

@@ -9,141 +9,30 @@ use Rattle.perform.proofs.perform.Tie as tie
 enum-told : tie.Need-enum-told
 enum-told c = search needs
 
-nop-requires : tie.Need-nop-requires
-nop-requires c κs = search needs
-
-enum-known-c : tie.Need-enum-known-c
-enum-known-c c = search needs
-
-link-requires : tie.Need-link-requires
-link-requires c κs = search needs
-
-enum-known-c-2 : tie.Need-enum-known-c-2
-enum-known-c-2 c = search needs
-
 call-requires : tie.Need-call-requires
 call-requires c κs =
     let start = c .before .before .before .before .before in
     call-room (start .args .g) (start .args .r) (start .args .p) _ _ (allowed-as (c .before .c2 .given .1) (start .pre) .clear)
-
-enum-told-2 : tie.Need-enum-told-2
-enum-told-2 c = search needs
 
 return-from-call-requires : tie.Need-return-from-call-requires
 return-from-call-requires c κs =
     let start = c .before .before .before .before in
     (return-kept (start .args .g) (start .args .r) (start .args .p) _ (allowed-as (c .enum-told2 .given .1) (start .pre) .clear), start .pre .sound .good .returns)
 
-enum-known-c-3 : tie.Need-enum-known-c-3
-enum-known-c-3 c = search needs
-
-abs-mov-requires : tie.Need-abs-mov-requires
-abs-mov-requires c κs = search needs
-
-enum-known-c-4 : tie.Need-enum-known-c-4
-enum-known-c-4 c = search needs
-
-rel-mov-requires : tie.Need-rel-mov-requires
-rel-mov-requires c κs = search needs
-
-enum-known-c-5 : tie.Need-enum-known-c-5
-enum-known-c-5 c = search needs
-
-def-bitmap-requires : tie.Need-def-bitmap-requires
-def-bitmap-requires c κs = search needs
-
-enum-known-c-6 : tie.Need-enum-known-c-6
-enum-known-c-6 c = search needs
-
-def-clip-rect-requires : tie.Need-def-clip-rect-requires
-def-clip-rect-requires c κs = search needs
-
-enum-known-c-7 : tie.Need-enum-known-c-7
-enum-known-c-7 c = search needs
-
-def-colors-requires : tie.Need-def-colors-requires
-def-colors-requires c κs = search needs
-
-enum-known-c-8 : tie.Need-enum-known-c-8
-enum-known-c-8 c = search needs
-
-def-logical-op-requires : tie.Need-def-logical-op-requires
-def-logical-op-requires c κs = search needs
-
-enum-known-c-9 : tie.Need-enum-known-c-9
-enum-known-c-9 c = search needs
-
-def-texture-requires : tie.Need-def-texture-requires
-def-texture-requires c κs = search needs
-
-enum-known-c-10 : tie.Need-enum-known-c-10
-enum-known-c-10 c = search needs
-
-def-space-requires : tie.Need-def-space-requires
-def-space-requires c κs = search needs
-
-enum-known-c-11 : tie.Need-enum-known-c-11
-enum-known-c-11 c = search needs
-
-def-char-orient-requires : tie.Need-def-char-orient-requires
-def-char-orient-requires c κs = search needs
-
-enum-known-c-12 : tie.Need-enum-known-c-12
-enum-known-c-12 c = search needs
-
-def-char-set-requires : tie.Need-def-char-set-requires
-def-char-set-requires c κs = search needs
-
-enum-told-3 : tie.Need-enum-told-3
-enum-told-3 c = search needs
-
-enter-pick-requires : tie.Need-enter-pick-requires
-enter-pick-requires c κs = search needs
-
-enum-told-4 : tie.Need-enum-told-4
-enum-told-4 c = search needs
-
-exit-pick-requires : tie.Need-exit-pick-requires
-exit-pick-requires c κs = search needs
-
-enum-known-c-13 : tie.Need-enum-known-c-13
-enum-known-c-13 c = search needs
-
 point-requires : tie.Need-point-requires
 point-requires c κs = allowed-as (c .before .before .before .c13 .given .1) (c .before .before .before .before .before .before .before .pre)
-
-enum-known-c-14 : tie.Need-enum-known-c-14
-enum-known-c-14 c = search needs
 
 line-requires : tie.Need-line-requires
 line-requires c κs = allowed-as (c .before .before .before .c14 .given .1) (c .before .before .before .before .before .before .before .pre)
 
-enum-known-c-15 : tie.Need-enum-known-c-15
-enum-known-c-15 c = search needs
-
 rect-requires : tie.Need-rect-requires
 rect-requires c κs = allowed-as (c .before .before .before .c15 .given .1) (c .before .before .before .before .before .before .before .pre)
-
-enum-known-c-16 : tie.Need-enum-known-c-16
-enum-known-c-16 c = search needs
 
 polyline-requires : tie.Need-polyline-requires
 polyline-requires c κs = allowed-as (c .before .before .before .c16 .given .1) (c .before .before .before .before .before .before .before .pre)
 
-enum-known-c-17 : tie.Need-enum-known-c-17
-enum-known-c-17 c = search needs
-
 scan-lines-requires : tie.Need-scan-lines-requires
 scan-lines-requires c κs = allowed-as (c .before .before .before .c17 .given .1) (c .before .before .before .before .before .before .before .pre)
-
-enum-known-c-18 : tie.Need-enum-known-c-18
-enum-known-c-18 c = search needs
-
-enum-known-c-19 : tie.Need-enum-known-c-19
-enum-known-c-19 c = search needs
-
-enum-known-c-20 : tie.Need-enum-known-c-20
-enum-known-c-20 c = search needs
 
 returns : tie.Need-returns
 unfolding effectOf
@@ -241,23 +130,11 @@ returns-16 c =
     let start = c .before .before .before .before .before in
     done-record (start .args .g) (start .args .r) (start .args .p) (start .args .next) _ (start .args .screen .now) (start .args .store .now) _ _ _ (c .before .enum-told4 .given .1) refl (c .exit-pick .ensures)
 
-same-length : tie.Need-same-length
-same-length c = search needs
-
-same-length-2 : tie.Need-same-length-2
-same-length-2 c = search needs
-
 returns-17 : tie.Need-returns-17
 returns-17 c =
     let d = c .before .before .before .before in
     let start = d .before .before .before .before .before .before .before .before in
     done-as (start .args .g) (start .args .r) (start .args .p) (start .args .next) (start .args .screen .now) (start .args .store .now) (d .before .before .before .before .c13 .given .1) (d .point .ensures)
-
-same-length-3 : tie.Need-same-length-3
-same-length-3 c = search needs
-
-same-length-4 : tie.Need-same-length-4
-same-length-4 c = search needs
 
 returns-18 : tie.Need-returns-18
 returns-18 c =
@@ -265,35 +142,17 @@ returns-18 c =
     let start = d .before .before .before .before .before .before .before .before in
     done-as (start .args .g) (start .args .r) (start .args .p) (start .args .next) (start .args .screen .now) (start .args .store .now) (d .before .before .before .before .c14 .given .1) (d .line .ensures)
 
-same-length-5 : tie.Need-same-length-5
-same-length-5 c = search needs
-
-same-length-6 : tie.Need-same-length-6
-same-length-6 c = search needs
-
 returns-19 : tie.Need-returns-19
 returns-19 c =
     let d = c .before .before .before .before in
     let start = d .before .before .before .before .before .before .before .before in
     done-as (start .args .g) (start .args .r) (start .args .p) (start .args .next) (start .args .screen .now) (start .args .store .now) (d .before .before .before .before .c15 .given .1) (d .rect .ensures)
 
-same-length-7 : tie.Need-same-length-7
-same-length-7 c = search needs
-
-same-length-8 : tie.Need-same-length-8
-same-length-8 c = search needs
-
 returns-20 : tie.Need-returns-20
 returns-20 c =
     let d = c .before .before .before .before in
     let start = d .before .before .before .before .before .before .before .before in
     done-as (start .args .g) (start .args .r) (start .args .p) (start .args .next) (start .args .screen .now) (start .args .store .now) (d .before .before .before .before .c16 .given .1) (d .polyline .ensures)
-
-same-length-9 : tie.Need-same-length-9
-same-length-9 c = search needs
-
-same-length-10 : tie.Need-same-length-10
-same-length-10 c = search needs
 
 returns-21 : tie.Need-returns-21
 returns-21 c =
@@ -304,12 +163,6 @@ returns-21 c =
 bit-blt-requires : tie.Need-bit-blt-requires
 bit-blt-requires c κs = allowed-as (c .before .before .before .c18 .given .1) (c .before .before .before .before .before .before .before .pre)
 
-same-length-11 : tie.Need-same-length-11
-same-length-11 c = search needs
-
-same-length-12 : tie.Need-same-length-12
-same-length-12 c = search needs
-
 returns-22 : tie.Need-returns-22
 returns-22 c =
     let d = c .before .before .before .before in
@@ -319,12 +172,6 @@ returns-22 c =
 bit-blt-m-requires : tie.Need-bit-blt-m-requires
 bit-blt-m-requires c κs = allowed-as (c .before .before .before .c19 .given .1) (c .before .before .before .before .before .before .before .pre)
 
-same-length-13 : tie.Need-same-length-13
-same-length-13 c = search needs
-
-same-length-14 : tie.Need-same-length-14
-same-length-14 c = search needs
-
 returns-23 : tie.Need-returns-23
 returns-23 c =
     let d = c .before .before .before .before in
@@ -333,12 +180,6 @@ returns-23 c =
 
 char-requires : tie.Need-char-requires
 char-requires c κs = allowed-as (c .before .before .before .c20 .given .1) (c .before .before .before .before .before .before .before .pre)
-
-same-length-15 : tie.Need-same-length-15
-same-length-15 c = search needs
-
-same-length-16 : tie.Need-same-length-16
-same-length-16 c = search needs
 
 returns-24 : tie.Need-returns-24
 returns-24 c =
@@ -351,52 +192,52 @@ perform-spec =
     tie.close
     (tie.spec
     enum-told
-    nop-requires
-    enum-known-c
-    link-requires
-    enum-known-c-2
+    (λ c κs. search needs)
+    (λ c. search needs)
+    (λ c κs. search needs)
+    (λ c. search needs)
     call-requires
-    enum-told-2
+    (λ c. search needs)
     return-from-call-requires
-    enum-known-c-3
-    abs-mov-requires
-    enum-known-c-4
-    rel-mov-requires
-    enum-known-c-5
-    def-bitmap-requires
-    enum-known-c-6
-    def-clip-rect-requires
-    enum-known-c-7
-    def-colors-requires
-    enum-known-c-8
-    def-logical-op-requires
-    enum-known-c-9
-    def-texture-requires
-    enum-known-c-10
-    def-space-requires
-    enum-known-c-11
-    def-char-orient-requires
-    enum-known-c-12
-    def-char-set-requires
-    enum-told-3
-    enter-pick-requires
-    enum-told-4
-    exit-pick-requires
-    enum-known-c-13
+    (λ c. search needs)
+    (λ c κs. search needs)
+    (λ c. search needs)
+    (λ c κs. search needs)
+    (λ c. search needs)
+    (λ c κs. search needs)
+    (λ c. search needs)
+    (λ c κs. search needs)
+    (λ c. search needs)
+    (λ c κs. search needs)
+    (λ c. search needs)
+    (λ c κs. search needs)
+    (λ c. search needs)
+    (λ c κs. search needs)
+    (λ c. search needs)
+    (λ c κs. search needs)
+    (λ c. search needs)
+    (λ c κs. search needs)
+    (λ c. search needs)
+    (λ c κs. search needs)
+    (λ c. search needs)
+    (λ c κs. search needs)
+    (λ c. search needs)
+    (λ c κs. search needs)
+    (λ c. search needs)
     point-requires
-    enum-known-c-14
+    (λ c. search needs)
     line-requires
-    enum-known-c-15
+    (λ c. search needs)
     rect-requires
-    enum-known-c-16
+    (λ c. search needs)
     polyline-requires
-    enum-known-c-17
+    (λ c. search needs)
     scan-lines-requires
-    enum-known-c-18
+    (λ c. search needs)
     bit-blt-requires
-    enum-known-c-19
+    (λ c. search needs)
     bit-blt-m-requires
-    enum-known-c-20
+    (λ c. search needs)
     char-requires
     returns
     returns-2
@@ -414,27 +255,27 @@ perform-spec =
     returns-14
     returns-15
     returns-16
-    same-length
-    same-length-2
+    (λ c. search needs)
+    (λ c. search needs)
     returns-17
-    same-length-3
-    same-length-4
+    (λ c. search needs)
+    (λ c. search needs)
     returns-18
-    same-length-5
-    same-length-6
+    (λ c. search needs)
+    (λ c. search needs)
     returns-19
-    same-length-7
-    same-length-8
+    (λ c. search needs)
+    (λ c. search needs)
     returns-20
-    same-length-9
-    same-length-10
+    (λ c. search needs)
+    (λ c. search needs)
     returns-21
-    same-length-11
-    same-length-12
+    (λ c. search needs)
+    (λ c. search needs)
     returns-22
-    same-length-13
-    same-length-14
+    (λ c. search needs)
+    (λ c. search needs)
     returns-23
-    same-length-15
-    same-length-16
+    (λ c. search needs)
+    (λ c. search needs)
     returns-24)

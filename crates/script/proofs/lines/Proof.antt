@@ -3,7 +3,7 @@ use mathlib.Core.Path.{_≡_}
 use Prim.Native.Nat.{_-_}
 use native.Mathlib.Omega.{arith}
 use lib.ListN.{length}
-use Rattle.session.proofs.DeskLaws.{counts}
+use Rattle.script_session.proofs.DeskLaws.{counts}
 use Rattle.script.proofs.ScriptLaws.{Along, along-none, along-next, along-all}
 use borrow.Author.Needs.{needs}
 use Rattle.script.proofs.lines.Statement.{statement}
@@ -17,35 +17,8 @@ Inv-loop language script screen₀ stores₀ scratch₀ out₀ session₀ writte
 abbrev μ-loop : tie.MeasureT-loop
 μ-loop language script screen₀ stores₀ scratch₀ out₀ session₀ written₀ from₀ screen stores scratch out session written from = length script - from
 
-begun-requires : tie.Need-begun-requires Inv-loop μ-loop
-begun-requires c κs = search needs
-
 loop-holds : tie.Need-loop-holds Inv-loop μ-loop
 loop-holds c = (search needs, search needs, search needs, search needs, along-none _ _ _ _ _ (c .begun .ensures))
-
-line-end-requires : tie.Need-line-end-requires Inv-loop μ-loop
-line-end-requires c κs = search needs
-
-add-next : tie.Need-add-next Inv-loop μ-loop
-add-next c = search needs
-
-sub-one-line : tie.Need-sub-one-line Inv-loop μ-loop
-sub-one-line c = search needs
-
-part-one-line-start : tie.Need-part-one-line-start Inv-loop μ-loop
-part-one-line-start c = search needs
-
-part-one-line-end : tie.Need-part-one-line-end Inv-loop μ-loop
-part-one-line-end c = search needs
-
-one-line-requires : tie.Need-one-line-requires Inv-loop μ-loop
-one-line-requires c κs = search needs
-
-print-requires : tie.Need-print-requires Inv-loop μ-loop
-print-requires c κs = search needs
-
-loop-less : tie.Need-loop-less Inv-loop μ-loop
-loop-less c = search needs
 
 loop-again : tie.Need-loop-again Inv-loop μ-loop
 loop-again c =
@@ -60,18 +33,6 @@ loop-again c =
       along-next _ _ _ _ _ (l .loop .inv .4) (l .loop .inv .3) (line .before .loop-test .taken) (line .line-end .ensures .1) (step .one-line .ensures) (print .print .ensures),
     )
 
-same-length : tie.Need-same-length Inv-loop μ-loop
-same-length c = search needs
-
-same-length-2 : tie.Need-same-length-2 Inv-loop μ-loop
-same-length-2 c = search needs
-
-same-length-3 : tie.Need-same-length-3 Inv-loop μ-loop
-same-length-3 c = search needs
-
-same-length-4 : tie.Need-same-length-4 Inv-loop μ-loop
-same-length-4 c = search needs
-
 returns : tie.Need-returns Inv-loop μ-loop
 returns c =
     let i = c .before .loop .inv in
@@ -83,19 +44,19 @@ lines-spec =
     (tie.spec
     Inv-loop
     μ-loop
-    begun-requires
+    (λ c κs. search needs)
     loop-holds
-    line-end-requires
-    add-next
-    sub-one-line
-    part-one-line-start
-    part-one-line-end
-    one-line-requires
-    print-requires
-    loop-less
+    (λ c κs. search needs)
+    (λ c. search needs)
+    (λ c. search needs)
+    (λ c. search needs)
+    (λ c. search needs)
+    (λ c κs. search needs)
+    (λ c κs. search needs)
+    (λ c. search needs)
     loop-again
-    same-length
-    same-length-2
-    same-length-3
-    same-length-4
+    (λ c. search needs)
+    (λ c. search needs)
+    (λ c. search needs)
+    (λ c. search needs)
     returns)

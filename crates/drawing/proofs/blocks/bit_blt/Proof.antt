@@ -1,7 +1,7 @@
 -- `drawing::blocks::bit_blt` meets its contract: the dots of the copy painted on the pane's target are what its plan leaves.
 use native.Mathlib.Omega.{arith}
 use borrow.Author.Needs.{needs}
-use Rattle.draw.specs.Targets.{targetOf}
+use Rattle.canvas.specs.Targets.{targetOf}
 use Rattle.drawing.proofs.AllowedLaws.{sound-sized}
 use Rattle.drawing.proofs.ReadyLaws.{ready-of}
 use Rattle.drawing.proofs.BlockLaws.{bit-blt-active, bit-blt-plain, bit-blt-done}
@@ -19,18 +19,6 @@ bit-blt-requires c κs =
     let plain = bit-blt-plain (start .args .g) (start .args .r) (start .args .p) _ _ _ _ _ (start .pre .clear) in
     rw (c .before .before .before .before .target-of .ensures) (ready, plain .within, omega arith)
 
-copied-to-requires : tie.Need-copied-to-requires
-copied-to-requires c κs = search needs
-
-drew-requires : tie.Need-drew-requires
-drew-requires c κs = search needs
-
-same-length : tie.Need-same-length
-same-length c = search needs
-
-same-length-2 : tie.Need-same-length-2
-same-length-2 c = search needs
-
 returns : tie.Need-returns
 returns c =
     let drawn = c .before .before .before .before .before .before in
@@ -46,8 +34,8 @@ bit-blt-spec =
     (tie.spec
     target-of-requires
     bit-blt-requires
-    copied-to-requires
-    drew-requires
-    same-length
-    same-length-2
+    (λ c κs. search needs)
+    (λ c κs. search needs)
+    (λ c. search needs)
+    (λ c. search needs)
     returns)

@@ -19,9 +19,6 @@ source-of-requires c κs =
 surface-of-requires : tie.Need-surface-of-requires
 surface-of-requires c κs = let sized = sound-sized (c .before .before .before .before .before .before .pre .sound) in (sized .0, sized .1)
 
-is-pane-requires : tie.Need-is-pane-requires
-is-pane-requires c κs = search needs
-
 bit-blt-m-requires : tie.Need-bit-blt-m-requires
 bit-blt-m-requires c κs =
     let named = c .before .before .before .before in
@@ -31,18 +28,6 @@ bit-blt-m-requires c κs =
     let source = sourced (start .args .g) (start .args .r) (start .args .p) _ _ _ _ _ _ _ (aim .target-of .ensures) (named .source-of .ensures) (c .is-pane .ensures) (c .before .before .before .surface-of .ensures) in
     let copy = bit-blt-m-copyable (start .args .g) (start .args .r) (start .args .p) _ _ _ _ _ _ _ _ _ _ _ _ _ source (start .pre .sound .placed) (start .pre .clear) in
     (rw (aim .target-of .ensures) ready, copy .readable, copy .plain .within, copy .unshared, omega arith)
-
-copied-to-requires : tie.Need-copied-to-requires
-copied-to-requires c κs = search needs
-
-drew-requires : tie.Need-drew-requires
-drew-requires c κs = search needs
-
-same-length : tie.Need-same-length
-same-length c = search needs
-
-same-length-2 : tie.Need-same-length-2
-same-length-2 c = search needs
 
 returns : tie.Need-returns
 returns c =
@@ -64,10 +49,10 @@ bit-blt-m-spec =
     target-of-requires
     source-of-requires
     surface-of-requires
-    is-pane-requires
+    (λ c κs. search needs)
     bit-blt-m-requires
-    copied-to-requires
-    drew-requires
-    same-length
-    same-length-2
+    (λ c κs. search needs)
+    (λ c κs. search needs)
+    (λ c. search needs)
+    (λ c. search needs)
     returns)

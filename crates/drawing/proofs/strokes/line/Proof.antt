@@ -10,9 +10,9 @@ use Rattle.model.specs.Coordinates.{coord, place}
 use Rattle.model.specs.Effects.{effectOf}
 use Rattle.model.specs.Lines.{lineDots, line}
 use Rattle.model.specs.Steps.{drewPane}
-use Rattle.draw.specs.declared.Target.{Target}
-use Rattle.draw.specs.Canvas.{canvas, paintedAll}
-use Rattle.draw.specs.Targets.{targetOf}
+use Rattle.canvas.specs.declared.Target.{Target}
+use Rattle.canvas.specs.Canvas.{canvas, paintedAll}
+use Rattle.canvas.specs.Targets.{targetOf}
 use Rattle.drawing.proofs.AllowedLaws.{sound-sized, line-active}
 use Rattle.drawing.proofs.ReadyLaws.{ready-of, drew-painted}
 use Rattle.drawing.proofs.strokes.line.Statement.{statement}
@@ -26,18 +26,6 @@ line-requires c κs =
     let start = c .before .before .before .before .before .before in
     let ready = ready-of (start .args .g) (start .args .r) (start .args .p) _ _ (start .pre .sound) (line-active _ _ _ _ _ _ (start .pre .clear)) in
     (rw (c .before .before .before .target-of .ensures) ready, omega arith)
-
-move-by-requires : tie.Need-move-by-requires
-move-by-requires c κs = search needs
-
-drew-requires : tie.Need-drew-requires
-drew-requires c κs = search needs
-
-same-length : tie.Need-same-length
-same-length c = search needs
-
-same-length-2 : tie.Need-same-length-2
-same-length-2 c = search needs
 
 returns : tie.Need-returns
 unfolding effectOf line targetOf
@@ -58,8 +46,8 @@ line-spec =
     (tie.spec
     target-of-requires
     line-requires
-    move-by-requires
-    drew-requires
-    same-length
-    same-length-2
+    (λ c κs. search needs)
+    (λ c κs. search needs)
+    (λ c. search needs)
+    (λ c. search needs)
     returns)

@@ -10,9 +10,9 @@ use Rattle.model.specs.Coordinates.{coord, moved}
 use Rattle.model.specs.Effects.{effectOf}
 use Rattle.model.specs.Lines.{pointAt}
 use Rattle.model.specs.Steps.{drewPane}
-use Rattle.draw.specs.declared.Target.{Target}
-use Rattle.draw.specs.Canvas.{canvas, paintedAll}
-use Rattle.draw.specs.Targets.{targetOf}
+use Rattle.canvas.specs.declared.Target.{Target}
+use Rattle.canvas.specs.Canvas.{canvas, paintedAll}
+use Rattle.canvas.specs.Targets.{targetOf}
 use Rattle.drawing.proofs.AllowedLaws.{sound-sized, point-active}
 use Rattle.drawing.proofs.ReadyLaws.{ready-of, drew-painted}
 use Rattle.drawing.proofs.strokes.point.Statement.{statement}
@@ -21,23 +21,11 @@ use Rattle.drawing.proofs.strokes.point.Tie as tie
 target-of-requires : tie.Need-target-of-requires
 target-of-requires c κs = sound-sized (c .before .before .pre .sound)
 
-move-by-requires : tie.Need-move-by-requires
-move-by-requires c κs = search needs
-
 point-requires : tie.Need-point-requires
 point-requires c κs =
     let start = c .before .before .before .before .before .before .before in
     let ready = ready-of (start .args .g) (start .args .r) (start .args .p) _ _ (start .pre .sound) (point-active _ _ _ _ _ _ (start .pre .clear)) in
     (rw (c .before .before .before .before .target-of .ensures) ready, omega arith)
-
-drew-requires : tie.Need-drew-requires
-drew-requires c κs = search needs
-
-same-length : tie.Need-same-length
-same-length c = search needs
-
-same-length-2 : tie.Need-same-length-2
-same-length-2 c = search needs
 
 returns : tie.Need-returns
 unfolding effectOf pointAt targetOf
@@ -58,4 +46,4 @@ returns c =
 pub point-spec : {M : Type 1} → statement M
 point-spec =
     tie.close
-    (tie.spec target-of-requires move-by-requires point-requires drew-requires same-length same-length-2 returns)
+    (tie.spec target-of-requires (λ c κs. search needs) point-requires (λ c κs. search needs) (λ c. search needs) (λ c. search needs) returns)

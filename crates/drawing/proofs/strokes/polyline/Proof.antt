@@ -10,9 +10,9 @@ use Rattle.model.specs.declared.Point.{Point}
 use Rattle.model.specs.Effects.{effectOf}
 use Rattle.model.specs.Lines.{pairsAt, polyline}
 use Rattle.model.specs.Steps.{drewPane}
-use Rattle.draw.specs.declared.Target.{Target}
-use Rattle.draw.specs.Canvas.{canvas, paintedAll}
-use Rattle.draw.specs.Targets.{targetOf}
+use Rattle.canvas.specs.declared.Target.{Target}
+use Rattle.canvas.specs.Canvas.{canvas, paintedAll}
+use Rattle.canvas.specs.Targets.{targetOf}
 use Rattle.drawing.proofs.AllowedLaws.{sound-sized, polyline-clear, array-reach, polyline-trap}
 use Rattle.drawing.proofs.ReadyLaws.{ready-of, drew-painted}
 use Rattle.drawing.proofs.strokes.polyline.Statement.{statement}
@@ -28,15 +28,6 @@ polyline-requires c κs =
     let ready = ready-of (start .args .g) (start .args .r) (start .args .p) _ _ (start .pre .sound) (clear .0) in
     let reach = array-reach (start .args .g) (start .args .r) (start .args .p) _ (start .args .array) (4 * start .args .count) (start .pre .sound .placed .part) (clear .1) in
     (rw (c .before .before .before .target-of .ensures) ready, omega (arith, start .fits .count .fits), rw (c .before .before .before .target-of .ensures) reach)
-
-drew-requires : tie.Need-drew-requires
-drew-requires c κs = search needs
-
-same-length : tie.Need-same-length
-same-length c = search needs
-
-same-length-2 : tie.Need-same-length-2
-same-length-2 c = search needs
 
 returns : tie.Need-returns
 unfolding effectOf targetOf
@@ -60,4 +51,4 @@ returns c =
 pub polyline-spec : {M : Type 1} → statement M
 polyline-spec =
     tie.close
-    (tie.spec target-of-requires polyline-requires drew-requires same-length same-length-2 returns)
+    (tie.spec target-of-requires polyline-requires (λ c κs. search needs) (λ c. search needs) (λ c. search needs) returns)

@@ -5,9 +5,9 @@ use Rattle.model.specs.declared.Command.the-variants as command
 use Rattle.model.specs.Coordinates.{coord}
 use Rattle.model.specs.Effects.{effectOf}
 use Rattle.model.specs.Lines.{rectangle}
-use Rattle.draw.specs.declared.Target.{Target}
-use Rattle.draw.specs.Canvas.{canvas, paintedAll}
-use Rattle.draw.specs.Targets.{targetOf}
+use Rattle.canvas.specs.declared.Target.{Target}
+use Rattle.canvas.specs.Canvas.{canvas, paintedAll}
+use Rattle.canvas.specs.Targets.{targetOf}
 use Rattle.drawing.proofs.AllowedLaws.{sound-sized, rect-active}
 use Rattle.drawing.proofs.ReadyLaws.{ready-of, drew-painted}
 use Rattle.drawing.proofs.strokes.rect.Statement.{statement}
@@ -21,15 +21,6 @@ rect-requires c κs =
     let start = c .before .before .before .before .before .before in
     let ready = ready-of (start .args .g) (start .args .r) (start .args .p) _ _ (start .pre .sound) (rect-active _ _ _ _ _ _ (start .pre .clear)) in
     rw (c .before .before .before .target-of .ensures) ready
-
-drew-requires : tie.Need-drew-requires
-drew-requires c κs = search needs
-
-same-length : tie.Need-same-length
-same-length c = search needs
-
-same-length-2 : tie.Need-same-length-2
-same-length-2 c = search needs
 
 returns : tie.Need-returns
 unfolding effectOf rectangle targetOf
@@ -47,4 +38,4 @@ returns c =
 pub rect-spec : {M : Type 1} → statement M
 rect-spec =
     tie.close
-    (tie.spec target-of-requires rect-requires drew-requires same-length same-length-2 returns)
+    (tie.spec target-of-requires rect-requires (λ c κs. search needs) (λ c. search needs) (λ c. search needs) returns)

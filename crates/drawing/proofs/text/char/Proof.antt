@@ -14,15 +14,6 @@ write-requires c κs =
     rw (c .before .before .before .before .target-of .ensures)
     (char-writable (start .args .g) (start .args .r) (start .args .p) (start .args .store .now) (start .args .string) (start .args .count) (start .args .transparent) _ (start .pre .sound) (start .pre .clear))
 
-drew-requires : tie.Need-drew-requires
-drew-requires c κs = search needs
-
-same-length : tie.Need-same-length
-same-length c = search needs
-
-same-length-2 : tie.Need-same-length-2
-same-length-2 c = search needs
-
 returns : tie.Need-returns
 returns c =
     let drawn = c .before .before .before .before .before .before in
@@ -34,4 +25,4 @@ returns c =
 pub char-spec : {M : Type 1} → statement M
 char-spec =
     tie.close
-    (tie.spec target-of-requires write-requires drew-requires same-length same-length-2 returns)
+    (tie.spec target-of-requires write-requires (λ c κs. search needs) (λ c. search needs) (λ c. search needs) returns)

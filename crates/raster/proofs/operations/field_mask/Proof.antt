@@ -11,23 +11,8 @@ use borrow.Author.Needs.{needs}
 use Rattle.raster.proofs.operations.field_mask.Statement.{statement}
 use Rattle.raster.proofs.operations.field_mask.Tie as tie
 
-cast-result : tie.Need-cast-result
-cast-result c = search needs
-
-shl-result : tie.Need-shl-result
-shl-result c = search needs
-
 sub-result : tie.Need-sub-result
 sub-result c = leb-true 1 _ (each 9 (λ b. leb 1 (1 * 2 ^ b % 4294967296)) (λ b. true) refl (c .args .b) (omega arith))
-
-cast-result-2 : tie.Need-cast-result-2
-cast-result-2 c = search needs
-
-shl-result-2 : tie.Need-shl-result-2
-shl-result-2 c = search needs
-
-cast-result-3 : tie.Need-cast-result-3
-cast-result-3 c = search needs
 
 -- what the code computes
 shifted : ℕ → ℕ → ℕ
@@ -43,4 +28,4 @@ returns c =
 pub field-mask-spec : {M : Type 1} → statement M
 field-mask-spec =
     tie.close
-    (tie.spec cast-result shl-result sub-result cast-result-2 shl-result-2 cast-result-3 returns)
+    (tie.spec (λ c. search needs) (λ c. search needs) sub-result (λ c. search needs) (λ c. search needs) (λ c. search needs) returns)

@@ -9,18 +9,6 @@ use borrow.Author.Needs.{needs}
 use Rattle.raster.proofs.operations.field_of.Statement.{statement}
 use Rattle.raster.proofs.operations.field_of.Tie as tie
 
-cast-result : tie.Need-cast-result
-cast-result c = search needs
-
-shr-result : tie.Need-shr-result
-shr-result c = search needs
-
-cast-result-2 : tie.Need-cast-result-2
-cast-result-2 c = search needs
-
-shl-result : tie.Need-shl-result
-shl-result c = search needs
-
 -- 1 shifted is a power
 one-shifted : (b : ℕ) → b ≤ 8 → 1 * 2 ^ b % 4294967296 ≡ 2 ^ b
 one-shifted b h = shl-exact {a = 1} 1 b 32 (omega arith) (omega arith) ∙ one-mul (2 ^ b)
@@ -39,4 +27,4 @@ returns c =
 pub field-of-spec : {M : Type 1} → statement M
 field-of-spec =
     tie.close
-    (tie.spec cast-result shr-result cast-result-2 shl-result rem-result cast-result-3 returns)
+    (tie.spec (λ c. search needs) (λ c. search needs) (λ c. search needs) (λ c. search needs) rem-result cast-result-3 returns)

@@ -6,15 +6,9 @@ use borrow.Author.Needs.{needs}
 use Rattle.raster.proofs.operations.truth_of.Statement.{statement}
 use Rattle.raster.proofs.operations.truth_of.Tie as tie
 
-mul-result : tie.Need-mul-result
-mul-result c = search needs
-
-array-copy-out-result : tie.Need-array-copy-out-result
-array-copy-out-result c = search needs
-
 returns : tie.Need-returns
 unfolding truthOf bit
 returns c = getD-tabulate 16 truthOf (c .before .args .code) (truthOf 0) (search needs)
 
 pub truth-of-spec : {M : Type 1} → statement M
-truth-of-spec = tie.close (tie.spec mul-result array-copy-out-result returns)
+truth-of-spec = tie.close (tie.spec (λ c. search needs) (λ c. search needs) returns)

@@ -24,17 +24,11 @@ slice-read-blended c =
     let p = c .before .before .spot-of in
     spot-in (s .args .s) (s .args .buffer .now) (s .args .x) (s .args .y) (s .pre .0) (p .result) (p .ensures)
 
-blended-requires : tie.Need-blended-requires
-blended-requires c κs = search needs
-
 slice-write-buffer : tie.Need-slice-write-buffer
 slice-write-buffer c =
     let s = c .before .before .before .before .before in
     let p = c .before .before .before .spot-of in
     spot-in (s .args .s) (s .args .buffer .now) (s .args .x) (s .args .y) (s .pre .0) (p .result) (p .ensures)
-
-same-length : tie.Need-same-length
-same-length c = search needs
 
 returns : tie.Need-returns
 returns c =
@@ -53,7 +47,7 @@ blend-spec =
     spot-of-requires
     source-byte-requires
     slice-read-blended
-    blended-requires
+    (λ c κs. search needs)
     slice-write-buffer
-    same-length
+    (λ c. search needs)
     returns)

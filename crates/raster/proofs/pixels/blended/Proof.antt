@@ -7,18 +7,6 @@ use Rattle.raster.proofs.ByteLaws.{overlaid-is}
 use Rattle.raster.proofs.pixels.blended.Statement.{statement}
 use Rattle.raster.proofs.pixels.blended.Tie as tie
 
-half-of-requires : tie.Need-half-of-requires
-half-of-requires c κs = search needs
-
-field-mask-requires : tie.Need-field-mask-requires
-field-mask-requires c κs = search needs
-
-operate-requires : tie.Need-operate-requires
-operate-requires c κs = search needs
-
-mux-requires : tie.Need-mux-requires
-mux-requires c κs = search needs
-
 returns : tie.Need-returns
 returns c =
     let a = c .before .before .before .before .args in
@@ -29,4 +17,4 @@ returns c =
 
 pub blended-spec : {M : Type 1} → statement M
 blended-spec =
-    tie.close (tie.spec half-of-requires field-mask-requires operate-requires mux-requires returns)
+    tie.close (tie.spec (λ c κs. search needs) (λ c κs. search needs) (λ c κs. search needs) (λ c κs. search needs) returns)

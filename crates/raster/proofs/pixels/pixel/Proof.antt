@@ -16,9 +16,6 @@ shared-slice-read-field-of c =
     let s = c .before .before .before in
     spot-in (s .args .s) (s .args .buffer .now) (s .args .x) (s .args .y) (s .pre) (c .before .spot-of .result) (c .before .spot-of .ensures)
 
-field-of-requires : tie.Need-field-of-requires
-field-of-requires c κs = search needs
-
 returns : tie.Need-returns
 returns c =
     let s = c .before .before .before .before in
@@ -27,4 +24,4 @@ returns c =
 
 pub pixel-spec : {M : Type 1} → statement M
 pixel-spec =
-    tie.close (tie.spec spot-of-requires shared-slice-read-field-of field-of-requires returns)
+    tie.close (tie.spec spot-of-requires shared-slice-read-field-of (λ c κs. search needs) returns)

@@ -12,21 +12,6 @@ use Rattle.raster.proofs.pixels.source_byte.Tie as tie
 enum-told : tie.Need-enum-told
 enum-told c = search needs
 
-enum-known-source : tie.Need-enum-known-source
-enum-known-source c = search needs
-
-half-of-requires : tie.Need-half-of-requires
-half-of-requires c κs = search needs
-
-enum-known-source-2 : tie.Need-enum-known-source-2
-enum-known-source-2 c = search needs
-
-cast-result : tie.Need-cast-result
-cast-result c = search needs
-
-shl-result : tie.Need-shl-result
-shl-result c = search needs
-
 -- the bits of a source that equals this one
 module _ (c : tie.Start) where
   with-source : {s : Source} (i : ℕ) → c .args .source ≡ s
@@ -55,11 +40,11 @@ source-byte-spec =
     tie.close
     (tie.spec
     enum-told
-    enum-known-source
-    half-of-requires
-    enum-known-source-2
-    cast-result
-    shl-result
+    (λ c. search needs)
+    (λ c κs. search needs)
+    (λ c. search needs)
+    (λ c. search needs)
+    (λ c. search needs)
     returns
     returns-2
     returns-3)

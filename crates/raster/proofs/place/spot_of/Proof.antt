@@ -9,16 +9,10 @@ use Rattle.raster.proofs.SpotLaws.{spot-lies}
 use Rattle.raster.proofs.place.spot_of.Statement.{statement}
 use Rattle.raster.proofs.place.spot_of.Tie as tie
 
-add-bits : tie.Need-add-bits
-add-bits c = search needs
-
 mul-bits : tie.Need-mul-bits
 mul-bits c =
     let s = c .before .before in
     omega (arith, s .pre .column, mul-le-mul-left (s .args .s .left + s .args .x) (depth-bounds (s .pre .depth) .1))
-
-add-t6 : tie.Need-add-t6
-add-t6 c = search needs
 
 mul-t7 : tie.Need-mul-t7
 mul-t7 c =
@@ -56,4 +50,4 @@ returns c =
 pub spot-of-spec : {M : Type 1} → statement M
 spot-of-spec =
     tie.close
-    (tie.spec add-bits mul-bits add-t6 mul-t7 mul-t8 add-t9 add-t10 sub-t11 sub-t13 returns)
+    (tie.spec (λ c. search needs) mul-bits (λ c. search needs) mul-t7 mul-t8 add-t9 add-t10 sub-t11 sub-t13 returns)

@@ -1,0 +1,39 @@
+-- What pixel relies on once its own check, whose answer is n, does not refuse it.
+use mathlib.Core.Path.{_≡_, refl}
+use mathlib.Core.Bool.{Bool, true, false, cond}
+use mathlib.Core.List.{List}
+use Prim.Native.Nat.{ℕ, suc, _<_}
+use native.Mathlib.Omega.{arith}
+use lib.Dec.{ltb}
+use lib.ListN.{length}
+use borrow.Author.Tests.{ltb-true}
+use Rattle.model.specs.declared.Console.{Console}
+use Rattle.model.specs.declared.Row.{Row}
+use Rattle.model.specs.declared.Pane.{Pane}
+use Rattle.model.specs.Bitmaps.{paneSurface}
+use Rattle.model.specs.Setup.{rowAt}
+use Rattle.model.specs.Calls.{pixel, ownRefusal}
+use Rattle.model.proofs.Decisions.{both-true}
+use Rattle.refusals.specs.Admitted.{Admitted}
+use Rattle.refusals.proofs.AdmittedLaws.{admitted-fits}
+use Rattle.raster.specs.Place.{Drawable}
+use Rattle.call_common.proofs.AcceptedLaws.{passed}
+
+cond-zero : (t : Bool) (n : ℕ) → cond t 0 (suc n) ≡ 0 → t ≡ true
+cond-zero true n h = refl
+cond-zero false n h = absurd (omega arith)
+
+-- the pixel is one of the pane's
+pixel-inside : (r : Row) (x y : ℕ) {n : ℕ} → ((p : Pane) → n ≡ ownRefusal r p (pixel x y)) → n ≡ 0 → (x < r .width) × (y < r .height)
+unfolding ownRefusal
+pixel-inside r x y e z =
+    let b = both-true (ltb x (r .width)) (ltb y (r .height)) (cond-zero _ 4 (passed r (pixel x y) e z)) in
+    (ltb-true x (r .width) (b .0), ltb-true y (r .height) (b .1))
+
+-- so that it can be read
+pub pixel-drawable : (c : Console) (screen : List ℕ) (stores k : ℕ) → Admitted c (length screen) stores k → (r : Row) → r ≡ rowAt (c .rows) k
+    → (x y : ℕ) {n : ℕ} → ((p : Pane) → n ≡ ownRefusal r p (pixel x y)) → n ≡ 0 → Drawable (paneSurface (c .geometry) r) screen x y
+unfolding paneSurface
+pixel-drawable c screen stores k a r q x y e z =
+    let i = rw q at (pixel-inside r x y e z) in
+    rw q record { fits = admitted-fits c screen stores k a; small = omega (arith, a .placed .right, a .placed .width); column = i .0; row = i .1 }

@@ -1,0 +1,25 @@
+// Clear: a pane record made fresh.
+use call_common::Answered;
+use call_common::fresh;
+use call_common::refused;
+use call_common::with_record;
+use model::Console;
+use model::Reply;
+use refusals::call::call_refusal;
+ghost use mathlib.Core.Path.{_≡_};
+ghost use Rattle.model.specs.Calls.{exec, on};
+ghost use Rattle.model.specs.Calls as calls;
+ghost use Rattle.call_common.specs.Answers.{state, answer};
+
+// Makes the record of the pane with a number fresh; store and pixels are kept; no refusal of its own.
+pub fn clear(screen: &[u8], stores: &[u8], console: Console, number: u32) -> Answered
+    ensures { λ r. ⌜ answer r (now (screen .entry)) (now (stores .entry))
+        ≡ exec (state console (now (screen .entry)) (now (stores .entry))) (on number calls.clear) ⌝ }
+{
+    let first = call_refusal(screen.len(), stores.len(), console, number);
+    if first != 0 {
+        return refused(console, first);
+    }
+    let k = number as usize;
+    with_record(console, k, fresh(), Reply::Done)
+}

@@ -1,0 +1,71 @@
+// Start: a pane set to run from an address of its store.
+use call_common::Answered;
+use call_common::REFUSE_END;
+use call_common::record_at;
+use call_common::refused;
+use call_common::row_at;
+use call_common::with_record;
+use model::Console;
+use model::Pane;
+use model::Progress;
+use model::Reply;
+use model::Returns;
+use model::Row;
+use refusals::call::call_refusal;
+use refusals::table::refuse;
+ghost use mathlib.Core.Path.{_≡_};
+ghost use Rattle.model.specs.Calls.{exec, on, ownRefusal, started};
+ghost use Rattle.model.specs.Calls as calls;
+ghost use Rattle.model.specs.declared.Pane.{Pane};
+ghost use Rattle.call_common.specs.Answers.{state, answer};
+
+// An odd address.
+const REFUSE_ODD: u8 = 3;
+
+// Start's own refusal: 3 if the address is odd, 2 if it is not below the store's length, or 0.
+fn start_refusal(row: Row, address: u32) -> u8
+    ensures { λ r. ⌜ ((p : Pane) → r ≡ ownRefusal row p (calls.start address)) ⌝ }
+{
+    refuse(
+        address % 2 == 1,
+        REFUSE_ODD,
+        refuse(row.len <= address, REFUSE_END, 0),
+    )
+}
+
+// The pane record with the pointer at the address, status 1, fault 0, no return addresses, the rest kept.
+fn started(pane: Pane, address: u32) -> Pane
+    ensures { λ r. ⌜ r ≡ started pane address ⌝ }
+{
+    Pane {
+        progress: Progress {
+            status: 1,
+            fault: 0,
+            pointer: address,
+        },
+        returns: Returns {
+            addresses: [0; 8],
+            count: 0,
+        },
+        ..pane
+    }
+}
+
+// Sets the pane with a number to run from the address on; refused 3 if that is odd, 2 if it is not below the store's length.
+pub fn start(screen: &[u8], stores: &[u8], console: Console, number: u32, address: u32) -> Answered
+    ensures { λ r. ⌜ answer r (now (screen .entry)) (now (stores .entry))
+        ≡ exec (state console (now (screen .entry)) (now (stores .entry))) (on number (calls.start address)) ⌝ }
+{
+    let first = call_refusal(screen.len(), stores.len(), console, number);
+    if first != 0 {
+        return refused(console, first);
+    }
+    let k = number as usize;
+    let row = row_at(console, k);
+    let own = start_refusal(row, address);
+    if own != 0 {
+        return refused(console, own);
+    }
+    let pane = record_at(console, k);
+    with_record(console, k, started(pane, address), Reply::Done)
+}

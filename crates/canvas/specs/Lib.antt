@@ -1,0 +1,3 @@
+-- What the contracts of `canvas` cite.
+pub mod Canvas
+pub mod Targets

@@ -1,3 +1,0 @@
--- What the contracts of `draw` cite.
-pub mod Canvas
-pub mod Targets

@@ -1,0 +1,4 @@
+-- What the contracts of `draw_text` cite beside model's definitions.
+pub mod Orientation
+pub mod Cells
+pub mod Writing

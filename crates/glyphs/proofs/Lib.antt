@@ -1,3 +1,0 @@
--- Laws of cells, and of a string drawn.
-pub mod CellLaws
-pub mod WritingLaws

@@ -1,2 +1,0 @@
--- What the contracts of `gp` cite beside model's definitions.
-pub mod Obeying

@@ -1,2 +1,0 @@
--- What the contracts of `lines` cite beside model's definitions.
-pub mod Segments

@@ -1,2 +1,0 @@
--- What the contracts of `outlines` cite beside model's definitions.
-pub mod Outlines

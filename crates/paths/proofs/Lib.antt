@@ -1,2 +1,0 @@
--- Laws of moves along the path.
-pub mod PathLaws

@@ -1,2 +1,0 @@
--- What the contracts of `paths` cite beside model's definitions.
-pub mod Orientation

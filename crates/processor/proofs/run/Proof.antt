@@ -1,0 +1,202 @@
+-- `processor::run` meets its contract. The invariant: what is left to run gives the same end, the pane is sound, and the commands counted and the
+-- budget left are at most the budget. The measure is the budget left.
+use mathlib.Core.Path.{_≡_, refl, sym, ap, _∙_}
+use mathlib.Core.Logic.{_⊎_, ⊎-elim}
+use Prim.Native.Nat.{ℕ, suc, _-_, _≤_}
+use native.Mathlib.Omega.{arith}
+use borrow.Author.Needs.{needs}
+use denote.Enum.Declared.{tagOf}
+use Rattle.model.specs.declared.Command.{Command}
+use Rattle.model.specs.declared.Decoded.{Decoded}
+use Rattle.model.specs.declared.Decoded.the-variants.{Do}
+use Rattle.model.specs.Commands.{decode}
+use Rattle.model.specs.Numbers.{statusRunning}
+use Rattle.model.specs.Runs.{stepped, runs}
+use Rattle.model.proofs.Decoded.{the-type}
+use Rattle.decoder.proofs.DecodeLaws.{decode-addressed}
+use Rattle.drawing.specs.Stepping.{Left, left, leftOf}
+use Rattle.processor.specs.Obeying.{obeyed}
+use Rattle.processor.proofs.ObeyLaws.{stepped-do}
+use Rattle.processor.proofs.RunningLaws.{Running, onward, onward-none, onward-zero, onward-idle, onward-step, onward-stopped, sound-step, count-step}
+use Rattle.processor.proofs.run.Statement.{statement}
+use Rattle.processor.proofs.run.Tie as tie
+
+abbrev Inv-loop : tie.InvT-loop
+Inv-loop screen₀ store₀ g r budget q₀ count₀ rest₀ screen store q count rest = Running g r budget q₀ screen₀ store₀ screen store q count rest
+
+abbrev μ-loop : tie.MeasureT-loop
+μ-loop screen₀ store₀ g r budget q₀ count₀ rest₀ screen store q count rest = rest
+
+loop-holds : tie.Need-loop-holds Inv-loop μ-loop
+loop-holds c = record {
+  sound = c .before .before .pre;
+  bytes = λ k. c .slice-known2 .given k .fits;
+  wide = refl;
+  tall = refl;
+  spent = omega arith;
+  same = onward-none _ _ _ _ _ _;
+}
+
+same-length : tie.Need-same-length Inv-loop μ-loop
+same-length c = c .before .before .before .loop .inv .wide
+
+same-length-2 : tie.Need-same-length-2 Inv-loop μ-loop
+same-length-2 c = c .before .before .before .loop .inv .tall
+
+-- a pane that does not run
+returns : tie.Need-returns Inv-loop μ-loop
+returns c =
+    let l = c .before .before .before .loop in
+    sym (onward-idle _ _ (l .rest) (left (l .count) (l .q) (l .screen) (l .store)) (c .if1 .taken)) ∙ l .inv .same
+
+-- ## What stands at the pointer
+
+decode-requires : tie.Need-decode-requires Inv-loop μ-loop
+decode-requires c κs = let placed = c .before .before .before .before .loop .inv .sound .placed in omega (arith, placed .part, placed .most)
+
+module _ (c : tie.After-decode Inv-loop μ-loop) where
+  abbrev start : tie.Start Inv-loop μ-loop
+  start = c .before .before .before .before .before .before .before .before
+
+  abbrev head : tie.At-loop Inv-loop μ-loop
+  head = c .before .before .before .before .before
+
+  -- the decoder is asked with the row's length
+  decoded : c .decode .result ≡ decode (start .args .r .len) (head .loop .store) (head .loop .q .progress .pointer)
+  decoded = c .decode .ensures ∙ ap (λ (n : ℕ). decode n (head .loop .store) (head .loop .q .progress .pointer)) (head .loop .inv .sound .placed .part)
+
+  running : head .loop .q .progress .status ≡ statusRunning
+  running = c .before .before .if1 .left
+
+  -- budget is left
+  one-left : suc (head .loop .rest - 1) ≡ head .loop .rest
+  one-left = omega (arith, c .before .before .before .before .loop-test .taken)
+
+  -- what is left to run, from here
+  from-here : onward (start .args .g) (start .args .r) (suc (head .loop .rest - 1)) (left (head .loop .count) (head .loop .q) (head .loop .screen) (head .loop .store))
+      ≡ leftOf (runs (start .args .g) (start .args .r) (start .args .budget) (start .args .p) (start .args .screen .now) (start .args .store .now))
+  from-here =
+      ap (λ (n : ℕ). onward (start .args .g) (start .args .r) n (left (head .loop .count) (head .loop .q) (head .loop .screen) (head .loop .store))) one-left
+      ∙ head .loop .inv .same
+
+-- ## The end, or a fault
+
+-- a command's tag is the first
+no-command : (d : Decoded) → (tagOf the-type d ≡ 1) ⊎ (tagOf the-type d ≡ 2) → (c : Command) (next : ℕ) → d ≡ Do c next → ⊥
+no-command d h c next e =
+    let z : tagOf the-type d ≡ 0 = ap (tagOf the-type) e in
+    ⊎-elim (λ f. omega arith) (λ f. omega arith) h
+
+same-length-3 : tie.Need-same-length-3 Inv-loop μ-loop
+same-length-3 c = head (c .before .before) .loop .inv .wide
+
+same-length-4 : tie.Need-same-length-4 Inv-loop μ-loop
+same-length-4 c = head (c .before .before) .loop .inv .tall
+
+returns-2 : tie.Need-returns-2 Inv-loop μ-loop
+returns-2 c =
+    let d = c .before .before in
+    let l = head d .loop in
+    sym (onward-stopped (start d .args .g) (start d .args .r) (l .rest - 1) (l .count) (l .q) (c .stopped .result) (l .screen) (l .store) (d .decode .result)
+    (running d) (decoded d) (no-command (d .decode .result) (c .before .match .keys2)) (c .stopped .ensures))
+    ∙ from-here d
+
+-- ## A command
+
+obey-requires : tie.Need-obey-requires Inv-loop μ-loop
+obey-requires c κs =
+    let d = c .before .before .before .before .before in
+    let l = head d .loop in
+    let command = c .before .before .before .d .given in (
+      l .inv .sound,
+      decode-addressed (start d .args .r .len) (l .store) (l .q .progress .pointer) _ (command .0 .1 .0) (l .inv .bytes) (sym (decoded d) ∙ command .1),
+    )
+
+-- .. is a step, and counts one at the most
+module _ (c : tie.After-obey Inv-loop μ-loop) where
+  abbrev asked : tie.After-decode Inv-loop μ-loop
+  asked = c .before .before .before .before .before .before
+
+  abbrev lap : tie.At-loop Inv-loop μ-loop
+  lap = head asked
+
+  step-done : {l : Left} → l ≡ obeyed (start asked .args .g) (start asked .args .r) (lap .loop .q) (c .before .before .before .before .d .given .0 .1 .0) (c .before .before .before .before .d .given .0 .0) (lap .loop .screen) (lap .loop .store)
+      → l ≡ leftOf (stepped (start asked .args .g) (start asked .args .r) (lap .loop .q) (lap .loop .screen) (lap .loop .store))
+  step-done e =
+      e
+      ∙ stepped-do (start asked .args .g) (start asked .args .r) (lap .loop .q) (lap .loop .screen) (lap .loop .store) _ _ (sym (decoded asked) ∙ c .before .before .before .before .d .given .1)
+
+  one : c .obey .result .count ≤ 1
+  one = count-step (start asked .args .g) (start asked .args .r) (lap .loop .q) (lap .loop .screen) (lap .loop .store) (step-done (c .obey .ensures))
+
+add-count : tie.Need-add-count Inv-loop μ-loop
+add-count c =
+    let d = c .before .before .before .before .before .before in
+    let k = one d in
+    record { fits = omega (arith, lap d .loop .inv .spent, one-left (asked d), start (asked d) .fits .budget .fits) }
+
+sub-rest : tie.Need-sub-rest Inv-loop μ-loop
+sub-rest c = omega (arith, one-left (asked (c .before .before .before .before .before .before)))
+
+loop-less : tie.Need-loop-less Inv-loop μ-loop
+loop-less c = omega (arith, one-left (asked (c .before .before .before .before .before .before)))
+
+loop-again : tie.Need-loop-again Inv-loop μ-loop
+loop-again c =
+    let d = c .before .before .before .before .before .before in
+    let l = lap d .loop in
+    let k = one d in
+    let e = step-done d (d .obey .ensures) in
+    record {
+      sound = sound-step (l .screen) (l .store) _ _ _ (running (asked d)) (l .inv .bytes) (l .inv .sound) (d .obey .kept .0) (d .obey .kept .1 .0) e;
+      bytes = λ i. c .before .before .slice-known4 .given i .fits;
+      wide = d .obey .kept .0 ∙ l .inv .wide;
+      tall = d .obey .kept .1 .0 ∙ l .inv .tall;
+      spent = omega (arith, l .inv .spent, one-left (asked d));
+      same =
+          sym (onward-step (start (asked d) .args .g) (start (asked d) .args .r) (l .rest - 1) (l .count) (l .q) (d .obey .result .pane) (l .screen) (l .store) _ _
+          (d .obey .result .count) (running (asked d)) e)
+          ∙ from-here (asked d);
+    }
+
+-- ## A spent budget
+
+same-length-5 : tie.Need-same-length-5 Inv-loop μ-loop
+same-length-5 c = c .before .loop .inv .wide
+
+same-length-6 : tie.Need-same-length-6 Inv-loop μ-loop
+same-length-6 c = c .before .loop .inv .tall
+
+returns-3 : tie.Need-returns-3 Inv-loop μ-loop
+returns-3 c =
+    let l = c .before .loop in
+    let start = c .before .before .before .before in
+    let e : l .rest ≡ 0 = omega (arith, c .loop-test .left) in
+    sym (onward-zero (start .args .g) (start .args .r) (left (l .count) (l .q) (l .screen) (l .store)))
+    ∙ ap (λ (n : ℕ). onward (start .args .g) (start .args .r) n (left (l .count) (l .q) (l .screen) (l .store))) (sym e)
+    ∙ l .inv .same
+
+pub run-spec : {M : Type 1} → statement M
+run-spec =
+    tie.close
+    (tie.spec
+    Inv-loop
+    μ-loop
+    loop-holds
+    same-length
+    same-length-2
+    returns
+    decode-requires
+    (λ c. search needs)
+    (λ c κs. search needs)
+    same-length-3
+    same-length-4
+    returns-2
+    obey-requires
+    add-count
+    sub-rest
+    loop-less
+    loop-again
+    same-length-5
+    same-length-6
+    returns-3)

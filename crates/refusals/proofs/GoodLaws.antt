@@ -1,0 +1,196 @@
+-- A good pane record is one that refusal 12 lets pass, and each part of it may be replaced by a good one.
+use mathlib.Core.Path.{_≡_, refl}
+use mathlib.Core.Bool.{Bool, false, not, _&&_, _||_}
+use Prim.Native.Nat.{ℕ, _%_, _≤_, _<_}
+use native.Mathlib.Omega.{arith}
+use lib.Dec.{ltb, eqb}
+use borrow.Author.Tests.{ltb-false, le-ltb, eqb-true, eqb-false, eq-eqb, ne-eqb, not-false}
+use Rattle.model.specs.declared.Geometry.{Geometry}
+use Rattle.model.specs.declared.Row.{Row}
+use Rattle.model.specs.declared.Progress.{Progress}
+use Rattle.model.specs.declared.Point.{Point}
+use Rattle.model.specs.declared.Bitmap.{Bitmap}
+use Rattle.model.specs.declared.Clip.{Clip}
+use Rattle.model.specs.declared.Font.{Font}
+use Rattle.model.specs.declared.Flags.{Flags}
+use Rattle.model.specs.declared.Returns.{Returns}
+use Rattle.model.specs.declared.Pane.{Pane}
+use Rattle.model.specs.Ranges.{outOf}
+use Rattle.model.specs.Numbers.{statusRunning, statusFaulted}
+use Rattle.model.specs.Bitmaps.{ruleBroken}
+use Rattle.model.specs.Faults.{clipOutside}
+use Rattle.model.specs.Record.{fresh, withPointer, ended, faulted, withPosition, withBitmap, withClip, withColours, withOperation, withPattern, withSpacing, withOrientation, withFont, withFlags, withReturns}
+use Rattle.model.specs.Setup.{progressBad, baseBad, fontBad, paneBad}
+use Rattle.model.specs.Calls.{started}
+use Rattle.model.proofs.Decisions.{split, either-false}
+use Rattle.refusals.specs.Good.{GoodProgress, Good}
+
+-- ## Refusal 12's tests
+
+either-none : {a b : Bool} → a ≡ false → b ≡ false → (a || b) ≡ false
+either-none e f = rw (e, f)
+
+within-false : (lo hi n : ℕ) → outOf lo hi n ≡ false → (lo ≤ n) × (n ≤ hi)
+within-false lo hi n h = let p = either-false (ltb n lo) (ltb hi n) h in (ltb-false n lo (p .0), ltb-false hi n (p .1))
+
+module _ (p : Progress) where
+  pub progressBad-good : progressBad p ≡ false → GoodProgress p
+  unfolding progressBad
+  progressBad-good h = record {
+    status = ltb-false 3 (p .status) (a .0);
+    least = λ e. within-false 20 29 (p .fault) (at e) .0;
+    most = λ e. within-false 20 29 (p .fault) (at e) .1;
+    none = λ n. eqb-true (p .fault) 0 (not-false (eqb (p .fault) 0) (rw (ne-eqb (p .status) statusFaulted n) at (b .1)));
+  }
+    where
+      a : (ltb 3 (p .status) ≡ false) × (((eqb (p .status) statusFaulted && outOf 20 29 (p .fault)) || (not (eqb (p .status) statusFaulted) && not (eqb (p .fault) 0))) ≡ false)
+      a = either-false (ltb 3 (p .status)) _ h
+
+      b : ((eqb (p .status) statusFaulted && outOf 20 29 (p .fault)) ≡ false) × ((not (eqb (p .status) statusFaulted) && not (eqb (p .fault) 0)) ≡ false)
+      b = either-false (eqb (p .status) statusFaulted && outOf 20 29 (p .fault)) (not (eqb (p .status) statusFaulted) && not (eqb (p .fault) 0)) (a .1)
+
+      at : p .status ≡ statusFaulted → outOf 20 29 (p .fault) ≡ false
+      at e = rw (eq-eqb (p .status) statusFaulted e) at (b .0)
+
+  pub good-progressBad : GoodProgress p → progressBad p ≡ false
+  unfolding progressBad
+  good-progressBad q = either-none (le-ltb 3 (p .status) (q .status)) (split (eqb (p .status) statusFaulted)
+      (λ e. let f = eqb-true (p .status) statusFaulted e in rw (e, le-ltb (p .fault) 20 (q .least f), le-ltb 29 (p .fault) (q .most f)))
+      (λ e. rw (e, eq-eqb (p .fault) 0 (q .none (eqb-false (p .status) statusFaulted e)))))
+
+-- a font's base
+pub record GoodBase (a : ℕ) : Type 0 where
+  pub even : a % 2 ≡ 0
+  pub most : a < 4194304
+
+pub good-baseBad : (a : ℕ) → GoodBase a → baseBad a ≡ false
+good-baseBad a q = let e = q .even in let m = q .most in either-none (ne-eqb (a % 2) 1 (λ o. omega arith)) (le-ltb 0x3FFFFF a (omega arith))
+
+module _ (g : Geometry) (r : Row) (p : Pane) where
+  pub paneBad-good : paneBad g r p ≡ false → Good g r p
+  unfolding paneBad
+  paneBad-good h =
+      let a = either-false (progressBad (p .progress)) _ h in
+      let b = either-false (ruleBroken g r (p .bitmap)) _ (a .1) in
+      let c = either-false (clipOutside (p .bitmap) (p .clip)) _ (b .1) in
+      let d = either-false (fontBad (p .text .font)) _ (c .1) in
+      let e = either-false (ltb 15 (p .pen .op)) _ (d .1) in
+      let f = either-false (ltb 3 (p .text .path)) _ (e .1) in
+      let i = either-false (ltb 3 (p .text .rotation)) (ltb 8 (p .returns .count)) (f .1) in
+      record {
+        progress = progressBad-good (p .progress) (a .0);
+        rule = b .0;
+        clip = c .0;
+        op = ltb-false 15 (p .pen .op) (e .0);
+        text = record { font = d .0; path = ltb-false 3 (p .text .path) (f .0); rotation = ltb-false 3 (p .text .rotation) (i .0) };
+        returns = ltb-false 8 (p .returns .count) (i .1);
+      }
+
+  pub good-paneBad : Good g r p → paneBad g r p ≡ false
+  unfolding paneBad
+  good-paneBad q =
+      either-none (good-progressBad (p .progress) (q .progress)) (either-none (q .rule) (either-none (q .clip) (either-none (q .text .font)
+      (either-none (le-ltb 15 (p .pen .op) (q .op)) (either-none (le-ltb 3 (p .text .path) (q .text .path))
+      (either-none (le-ltb 3 (p .text .rotation) (q .text .rotation)) (le-ltb 8 (p .returns .count) (q .returns))))))))
+
+-- ## A part replaced
+
+module _ {g : Geometry} {r : Row} {p : Pane} (q : Good g r p) where
+  pub good-pointer : (a : ℕ) → Good g r (withPointer p a)
+  good-pointer a = record {
+    progress = record { status = q .progress .status; least = q .progress .least; most = q .progress .most; none = q .progress .none };
+    rule = q .rule;
+    clip = q .clip;
+    op = q .op;
+    text = q .text;
+    returns = q .returns;
+  }
+
+  -- only a running list ends
+  pub good-ended : p .progress .status ≡ statusRunning → Good g r (ended p)
+  good-ended h = record {
+    progress = record { status = omega arith; least = λ f. absurd (omega arith); most = λ f. absurd (omega arith); none = λ f. q .progress .none (λ e. omega arith) };
+    rule = q .rule;
+    clip = q .clip;
+    op = q .op;
+    text = q .text;
+    returns = q .returns;
+  }
+
+  pub good-faulted : (f : ℕ) → 20 ≤ f → f ≤ 29 → Good g r (faulted p f)
+  good-faulted f l m = record {
+    progress = record { status = omega arith; least = λ e. l; most = λ e. m; none = λ n. absurd (n refl) };
+    rule = q .rule;
+    clip = q .clip;
+    op = q .op;
+    text = q .text;
+    returns = q .returns;
+  }
+
+  pub good-position : (at : Point) → Good g r (withPosition p at)
+  good-position at = record { progress = q .progress; rule = q .rule; clip = q .clip; op = q .op; text = q .text; returns = q .returns }
+
+  pub good-bitmap : (b : Bitmap) (c : Clip) → ruleBroken g r b ≡ false → clipOutside b c ≡ false → Good g r (withClip (withBitmap p b) c)
+  good-bitmap b c h o = record { progress = q .progress; rule = h; clip = o; op = q .op; text = q .text; returns = q .returns }
+
+  pub good-clip : (c : Clip) → clipOutside (p .bitmap) c ≡ false → Good g r (withClip p c)
+  good-clip c o = record { progress = q .progress; rule = q .rule; clip = o; op = q .op; text = q .text; returns = q .returns }
+
+  pub good-colours : (fore back : ℕ) → Good g r (withColours p fore back)
+  good-colours fore back = record { progress = q .progress; rule = q .rule; clip = q .clip; op = q .op; text = q .text; returns = q .returns }
+
+  pub good-operation : (op mask : ℕ) → op ≤ 15 → Good g r (withOperation p op mask)
+  good-operation op mask h = record { progress = q .progress; rule = q .rule; clip = q .clip; op = h; text = q .text; returns = q .returns }
+
+  pub good-pattern : (pattern : ℕ) (transparent : Bool) → Good g r (withPattern p pattern transparent)
+  good-pattern pattern transparent = record { progress = q .progress; rule = q .rule; clip = q .clip; op = q .op; text = q .text; returns = q .returns }
+
+  pub good-spacing : (spacing : ℕ) → Good g r (withSpacing p spacing)
+  good-spacing spacing = record {
+    progress = q .progress;
+    rule = q .rule;
+    clip = q .clip;
+    op = q .op;
+    text = record { font = q .text .font; path = q .text .path; rotation = q .text .rotation };
+    returns = q .returns;
+  }
+
+  pub good-orientation : (path rotation : ℕ) → path ≤ 3 → rotation ≤ 3 → Good g r (withOrientation p path rotation)
+  good-orientation path rotation h k = record {
+    progress = q .progress;
+    rule = q .rule;
+    clip = q .clip;
+    op = q .op;
+    text = record { font = q .text .font; path = h; rotation = k };
+    returns = q .returns;
+  }
+
+  pub good-font : (f : Font) → fontBad f ≡ false → Good g r (withFont p f)
+  good-font f h = record {
+    progress = q .progress;
+    rule = q .rule;
+    clip = q .clip;
+    op = q .op;
+    text = record { font = h; path = q .text .path; rotation = q .text .rotation };
+    returns = q .returns;
+  }
+
+  pub good-flags : (f : Flags) → Good g r (withFlags p f)
+  good-flags f = record { progress = q .progress; rule = q .rule; clip = q .clip; op = q .op; text = q .text; returns = q .returns }
+
+  pub good-returns : (k : Returns) → k .count ≤ 8 → Good g r (withReturns p k)
+  good-returns k h = record { progress = q .progress; rule = q .rule; clip = q .clip; op = q .op; text = q .text; returns = h }
+
+  pub good-started : (a : ℕ) → Good g r (started p a)
+  good-started a = record {
+    progress = record { status = omega arith; least = λ e. absurd (omega arith); most = λ e. absurd (omega arith); none = λ n. refl };
+    rule = q .rule;
+    clip = q .clip;
+    op = q .op;
+    text = q .text;
+    returns = omega arith;
+  }
+
+pub good-fresh : (g : Geometry) (r : Row) → Good g r fresh
+unfolding paneBad progressBad ruleBroken clipOutside
+good-fresh g r = paneBad-good g r fresh refl

@@ -1,2 +1,0 @@
--- What the contracts of `strings` cite beside model's definitions.
-pub mod Reading
