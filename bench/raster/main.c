@@ -7,7 +7,7 @@
 enum { LENGTH = 8192, TURNS = 20000000, RUNS = 7 };
 
 typedef void paint(uint8_t *buffer, size_t length, size_t bits, size_t turns, uint8_t op, uint16_t mask, uint16_t colour);
-paint rasterbench_paint, c_paint;
+paint bench_raster_paint, c_paint;
 
 static double seconds(paint *f, uint8_t *buffer, size_t bits, uint8_t op) {
     struct timespec from, to;
@@ -26,7 +26,7 @@ int main(void) {
         for (int run = 0; run < RUNS; run++) {
             for (int i = 0; i < LENGTH; i++) ours[i] = theirs[i] = (uint8_t)(i * 37 + run);
             uint8_t op = (uint8_t)(6 + run); /* the best of several operations: the work is the same for all */
-            double r = seconds(rasterbench_paint, ours, bits, op);
+            double r = seconds(bench_raster_paint, ours, bits, op);
             double s = seconds(c_paint, theirs, bits, op);
             if (memcmp(ours, theirs, LENGTH)) {
                 printf("operation %d at %zu bits: the buffers differ\n", op, bits);

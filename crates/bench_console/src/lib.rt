@@ -30,7 +30,8 @@ fn one_pane(width: u32, height: u32, depth: u32, len: u32) -> Console {
     }
 }
 
-// Sets up a console of one pane, starts its list at address 0 and runs it: the commands done, or 0 where a call is refused.
+// Sets up a console of one pane, starts its list at address 0 and runs it: the commands done, or 0 where a
+// call is refused.
 #[no_mangle]
 pub extern "C" fn run_list(
     screen: &mut [u8],

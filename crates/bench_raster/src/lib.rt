@@ -7,9 +7,10 @@ ghost use Prim.Native.Nat.{_<_};
 ghost use lib.ListN.{length};
 ghost use Rattle.model.specs.Bitmaps.{Depth};
 
-// Pixels of a surface of 128 by 64 in a buffer of 8192 bytes blended with a colour, row after row, until `turns` are done.
+// Pixels of a surface of 128 by 64 in a buffer of 8192 bytes blended with a colour, row after row, until
+// `turns` are done.
 #[no_mangle]
-pub extern "C" fn rasterbench_paint(
+pub extern "C" fn bench_raster_paint(
     buffer: &mut [u8],
     bits: usize,
     turns: usize,

@@ -14,7 +14,8 @@ use Rattle.model.specs.declared.Bitmap.{Bitmap}
 use Rattle.model.specs.declared.Bitmap.the-variants as bitmap
 use Rattle.model.specs.declared.Clip.{Clip}
 use Rattle.model.specs.declared.Surface.{Surface}
-use Rattle.model.specs.Bitmaps.{isDepth, rowWords, bitmapBytes, bitmapOf, paneAddress, paneSurface, storeSurface, surfaceOf, paneBitmapBad, storeBitmapBad, ruleBroken, Fits}
+use Rattle.model.specs.Bitmaps.{isDepth, rowWords, bitmapBytes, bitmapOf, paneAddress, paneSurface, storeSurface, surfaceOf, paneBitmapBad, storeBitmapBad}
+use Rattle.model.specs.Bitmaps.{ruleBroken, Fits}
 use Rattle.model.specs.Faults.{noBitmap, clipBeyond, clipOutside}
 use Rattle.model.proofs.Decisions.{holds, both-true, either-false, cond-ind}
 use Rattle.bitmaps.specs.Places.{Placed}
@@ -97,13 +98,13 @@ bitmap-fits-store g r store a xmax ymax b h e =
 -- ## The clip lies in the bitmap
 
 -- all four values of a clip are columns and rows of a surface
-pub record Within (s : Surface) (c : Clip) : Type 0 where
+pub record ClipWithin (s : Surface) (c : Clip) : Type 0 where
   pub left : c .xmin < s .width
   pub top : c .ymin < s .height
   pub right : c .xmax < s .width
   pub bottom : c .ymax < s .height
 
-clipBeyond-says : (xmax ymax : ℕ) (c : Clip) (s : Surface) → xmax + 1 ≡ s .width → ymax + 1 ≡ s .height → clipBeyond xmax ymax c ≡ false → Within s c
+clipBeyond-says : (xmax ymax : ℕ) (c : Clip) (s : Surface) → xmax + 1 ≡ s .width → ymax + 1 ≡ s .height → clipBeyond xmax ymax c ≡ false → ClipWithin s c
 clipBeyond-says xmax ymax c s w t h =
     let p = either-false (ltb xmax (c .xmin)) (ltb ymax (c .ymin) || (ltb xmax (c .xmax) || ltb ymax (c .ymax))) h in
     let q = either-false (ltb ymax (c .ymin)) (ltb xmax (c .xmax) || ltb ymax (c .ymax)) (p .1) in
@@ -114,7 +115,8 @@ clipBeyond-says xmax ymax c s w t h =
     let l = ltb-false ymax (c .ymax) (u .1) in
     record { left = omega arith; top = omega arith; right = omega arith; bottom = omega arith }
 
-pub clip-within : (g : Geometry) (r : Row) (b : Bitmap) (c : Clip) → noBitmap b ≡ false → ruleBroken g r b ≡ false → clipOutside b c ≡ false → Within (surfaceOf g r b) c
+pub clip-within : (g : Geometry) (r : Row) (b : Bitmap) (c : Clip) → noBitmap b ≡ false → ruleBroken g r b ≡ false → clipOutside b c ≡ false
+    → ClipWithin (surfaceOf g r b) c
 unfolding clipOutside surfaceOf paneSurface storeSurface
 clip-within g r bitmap.Absent c n h o = absurd (holds (sym n))
 clip-within g r (bitmap.Pane xmax ymax b) c n h o =

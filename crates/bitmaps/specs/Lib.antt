@@ -1,2 +1,3 @@
--- What the laws of bitmaps rely on beside paper 01's definitions.
+-- What the contracts and laws of bitmaps cite beside paper 01's definitions.
 pub mod Places
+pub mod Areas

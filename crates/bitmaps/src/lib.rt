@@ -1,12 +1,21 @@
-// DEF_BITMAP's rule, clips, and bytes of the store that touch a bitmap: refusal 12 and the commands' faults look at these.
+// Bitmaps: where their pixels lie, DEF_BITMAP's rule, clips, and bytes of the store that touch a bitmap.
+// Refusal 12, the commands' faults and the drawing commands look at these.
+pub mod areas; // areas.rt: where a bitmap's pixels lie
+
+pub use areas::Area;
+pub use areas::area_of;
+pub use areas::is_pane;
+pub use areas::source_of;
+pub use areas::surface_of;
 use model::Bitmap;
 use model::Clip;
-use model::Geometry;
+use model::Frame;
 use model::Row;
 ghost use mathlib.Core.Path.{_≡_};
 ghost use Prim.Native.Nat.{_+_, _^_, _≤_, _<_};
 ghost use lib.Dec.{ltb};
-ghost use Rattle.model.specs.Bitmaps.{isDepth, rowWords, bitmapOf, bitmapBytes, paneBitmapBad, storeBitmapBad, ruleBroken, shareSpan, touches};
+ghost use Rattle.model.specs.Bitmaps.{isDepth, rowWords, bitmapOf, bitmapBytes, shareSpan, touches};
+ghost use Rattle.model.specs.Bitmaps.{paneBitmapBad, storeBitmapBad, ruleBroken};
 ghost use Rattle.model.specs.Faults.{noBitmap, clipBeyond, clipOutside, bytesBad, arrayBad};
 
 // The address that means the pane.
@@ -79,9 +88,11 @@ fn passes_end(len: u32, at: usize, size: usize) -> bool
 }
 
 // Whether these values differ from the pane's width, height and depth.
-fn pane_bitmap_bad(g: Geometry, r: Row, xmax: u16, ymax: u16, bits: u16) -> bool
-    ensures { λ res. ⌜ res ≡ paneBitmapBad g r xmax ymax bits ⌝ }
+fn pane_bitmap_bad(f: Frame, xmax: u16, ymax: u16, bits: u16) -> bool
+    ensures { λ r. ⌜ r ≡ paneBitmapBad (f .geometry) (f .row) xmax ymax bits ⌝ }
 {
+    let g = f.geometry;
+    let r = f.row;
     !((xmax as u32 + 1 == r.width) & ((ymax as u32 + 1 == r.height) & (bits as u32 == g.depth)))
 }
 
@@ -96,19 +107,19 @@ fn store_bitmap_bad(len: u32, address: u32, xmax: u16, ymax: u16, bits: u16) -> 
                 | (!is_depth(bits as u32) | passes_end(len, address as usize, size))))
 }
 
-// Whether a bitmap breaks DEF_BITMAP's rule for a pane with this geometry and row; no bitmap breaks none.
-pub fn rule_broken(g: Geometry, r: Row, b: Bitmap) -> bool
-    ensures { λ res. ⌜ res ≡ ruleBroken g r b ⌝ }
+// Whether a bitmap breaks DEF_BITMAP's rule for a pane seen through this frame; no bitmap breaks none.
+pub fn rule_broken(f: Frame, b: Bitmap) -> bool
+    ensures { λ r. ⌜ r ≡ ruleBroken (f .geometry) (f .row) b ⌝ }
 {
     match b {
         Bitmap::Absent => false,
-        Bitmap::Pane { xmax, ymax, bits } => pane_bitmap_bad(g, r, xmax, ymax, bits),
+        Bitmap::Pane { xmax, ymax, bits } => pane_bitmap_bad(f, xmax, ymax, bits),
         Bitmap::Store {
             address,
             xmax,
             ymax,
             bits,
-        } => store_bitmap_bad(r.len, address, xmax, ymax, bits),
+        } => store_bitmap_bad(f.row.len, address, xmax, ymax, bits),
     }
 }
 

@@ -1,4 +1,5 @@
-// What the calls of the console have in common: what they answer, a refusal, a pane record replaced, a fresh one, a row or a record read.
+// What the calls of the console have in common: admission, what they answer, a refusal, a pane record
+// replaced, and a fresh one.
 use model::Bitmap;
 use model::Clip;
 use model::Console;
@@ -11,11 +12,14 @@ use model::Progress;
 use model::Reply;
 use model::Returns;
 use model::Row;
+use model::STATUS_PARKED;
 use model::Text;
+use refusals::call::call_refusal;
+use words::either;
 ghost use mathlib.Core.Path.{_≡_};
 ghost use Prim.Native.Nat.{_<_};
 ghost use Rattle.model.specs.Record.{fresh};
-ghost use Rattle.model.specs.Setup.{rowAt, paneAt};
+ghost use Rattle.call_common.specs.Admissions.{Admits};
 ghost use Rattle.call_common.specs.Answers.{turnedAway, replaced};
 
 // An address, or bytes from it on, past the end of the store.
@@ -23,6 +27,26 @@ pub const REFUSE_END: u8 = 2;
 
 // The operation "replace": a new bit is the source bit.
 const REPLACE: u8 = 5;
+
+// What a call on a pane begins with: the number of the first refusal common to all calls, or 0, and where it
+// is 0 the pane's row and record.
+pub struct Admission {
+    pub refusal: u8,
+    pub row: Row,
+    pub pane: Pane,
+}
+
+// Admits a call on the pane with a number, or refuses it, by the record and the lengths of the two buffers.
+pub fn admit(screen: usize, stores: usize, console: Console, number: u32) -> Admission
+    ensures { λ a. ⌜ Admits console screen stores number a ⌝ }
+{
+    let refusal = call_refusal(screen, stores, console, number);
+    // row and record of a refused call are pane 0's, and nothing is said of them
+    let k = either(refusal == 0, number as usize, 0);
+    let row = console.rows[k];
+    let pane = console.panes[k];
+    Admission { refusal, row, pane }
+}
 
 // What every call answers: the console record after it, and its reply.
 pub struct Answered {
@@ -40,11 +64,12 @@ pub fn refused(console: Console, number: u8) -> Answered
     }
 }
 
-// The record with pane k's replaced, all else kept, and a reply.
-pub fn with_record(console: Console, k: usize, pane: Pane, reply: Reply) -> Answered
-    requires { ⌜ k < 8 ⌝ }
-    ensures { λ r. ⌜ r ≡ replaced console k pane reply ⌝ }
+// The record with that of the pane with a number replaced, all else kept, and a reply.
+pub fn with_record(console: Console, number: u32, pane: Pane, reply: Reply) -> Answered
+    requires { ⌜ number < 8 ⌝ }
+    ensures { λ r. ⌜ r ≡ replaced console number pane reply ⌝ }
 {
+    let k = number as usize;
     let mut next = console;
     next.panes[k] = pane;
     Answered {
@@ -59,7 +84,7 @@ pub fn fresh() -> Pane
 {
     Pane {
         progress: Progress {
-            status: 0,
+            status: STATUS_PARKED,
             fault: 0,
             pointer: 0,
         },
@@ -95,20 +120,4 @@ pub fn fresh() -> Pane
             count: 0,
         },
     }
-}
-
-// The row of pane k.
-pub fn row_at(console: Console, k: usize) -> Row
-    requires { ⌜ k < 8 ⌝ }
-    ensures { λ r. ⌜ r ≡ rowAt (console .rows) k ⌝ }
-{
-    console.rows[k]
-}
-
-// The record of pane k.
-pub fn record_at(console: Console, k: usize) -> Pane
-    requires { ⌜ k < 8 ⌝ }
-    ensures { λ r. ⌜ r ≡ paneAt (console .panes) k ⌝ }
-{
-    console.panes[k]
 }

@@ -1,18 +1,15 @@
-// Pixel: the call that answers one of a pane's pixels. Crate `console` has it under one name with the other calls.
-use bitmaps::row_words;
+// Pixel: the call that answers one of a pane's pixels. Crate `console` has it under one name with the others.
+use bitmaps::surface_of;
 use call_common::Answered;
+use call_common::admit;
 use call_common::refused;
-use call_common::row_at;
+use model::Bitmap;
 use model::Console;
-use model::Geometry;
+use model::Frame;
 use model::Reply;
 use model::Row;
-use model::Surface;
-use refusals::call::call_refusal;
-use refusals::table::refuse;
+use words::number_if;
 ghost use mathlib.Core.Path.{_≡_};
-ghost use Prim.Native.Nat.{_≤_};
-ghost use Rattle.model.specs.Bitmaps.{paneSurface};
 ghost use Rattle.model.specs.Calls.{exec, on, ownRefusal};
 ghost use Rattle.model.specs.Calls as calls;
 ghost use Rattle.model.specs.declared.Pane.{Pane};
@@ -25,32 +22,11 @@ const REFUSE_PIXEL: u8 = 5;
 fn pixel_refusal(row: Row, x: u32, y: u32) -> u8
     ensures { λ r. ⌜ ((p : Pane) → r ≡ ownRefusal row p (calls.pixel x y)) ⌝ }
 {
-    refuse((x < row.width) & (y < row.height), 0, REFUSE_PIXEL)
+    number_if((x < row.width) & (y < row.height), 0, REFUSE_PIXEL)
 }
 
-// The pane's rectangle of the screen.
-fn pane_surface(g: Geometry, r: Row) -> Surface
-    requires { ⌜ (g .width ≤ 4096) × (g .depth ≤ 8) ⌝ }
-    ensures { λ s. ⌜ s ≡ paneSurface g r ⌝ }
-{
-    let words = row_words(g.width as usize, g.depth as usize);
-    let bits = g.depth as usize;
-    let left = r.left as usize;
-    let top = r.top as usize;
-    let width = r.width as usize;
-    let height = r.height as usize;
-    Surface {
-        base: 0,
-        words,
-        bits,
-        left,
-        top,
-        width,
-        height,
-    }
-}
-
-// Answers the value of pixel (x,y) from the corner of the pane with a number; changes nothing; refused 5 outside the pane.
+// Answers the value of pixel (x,y) from the corner of the pane with a number; changes nothing; refused 5
+// outside the pane.
 pub fn pixel(
     screen: &[u8],
     stores: &[u8],
@@ -62,18 +38,24 @@ pub fn pixel(
     ensures { λ r. ⌜ answer r (now (screen .entry)) (now (stores .entry))
         ≡ exec (state console (now (screen .entry)) (now (stores .entry))) (on number (calls.pixel x y)) ⌝ }
 {
-    let first = call_refusal(screen.len(), stores.len(), console, number);
-    if first != 0 {
-        return refused(console, first);
+    let admission = admit(screen.len(), stores.len(), console, number);
+    if admission.refusal != 0 {
+        return refused(console, admission.refusal);
     }
-    let k = number as usize;
-    let row = row_at(console, k);
-    let own = pixel_refusal(row, x, y);
+    let own = pixel_refusal(admission.row, x, y);
     if own != 0 {
         return refused(console, own);
     }
-    let surface = pane_surface(console.geometry, row);
-    let value = raster::pixel(screen, surface, x as usize, y as usize);
+    let geometry = console.geometry;
+    let row = admission.row;
+    // a bitmap that is the pane, whatever its values, is the pane's rectangle of the screen
+    let pane = Bitmap::Pane {
+        xmax: 0,
+        ymax: 0,
+        bits: 0,
+    };
+    let surface = surface_of(Frame { geometry, row }, pane);
+    let value = raster::pixel_at(screen, surface, x as usize, y as usize);
     Answered {
         console,
         reply: Reply::Value(value),

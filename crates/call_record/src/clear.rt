@@ -1,11 +1,11 @@
 // Clear: a pane record made fresh.
 use call_common::Answered;
+use call_common::admit;
 use call_common::fresh;
 use call_common::refused;
 use call_common::with_record;
 use model::Console;
 use model::Reply;
-use refusals::call::call_refusal;
 ghost use mathlib.Core.Path.{_≡_};
 ghost use Rattle.model.specs.Calls.{exec, on};
 ghost use Rattle.model.specs.Calls as calls;
@@ -16,10 +16,9 @@ pub fn clear(screen: &[u8], stores: &[u8], console: Console, number: u32) -> Ans
     ensures { λ r. ⌜ answer r (now (screen .entry)) (now (stores .entry))
         ≡ exec (state console (now (screen .entry)) (now (stores .entry))) (on number calls.clear) ⌝ }
 {
-    let first = call_refusal(screen.len(), stores.len(), console, number);
-    if first != 0 {
-        return refused(console, first);
+    let admission = admit(screen.len(), stores.len(), console, number);
+    if admission.refusal != 0 {
+        return refused(console, admission.refusal);
     }
-    let k = number as usize;
-    with_record(console, k, fresh(), Reply::Done)
+    with_record(console, number, fresh(), Reply::Done)
 }

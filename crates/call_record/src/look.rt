@@ -1,12 +1,11 @@
 // Look: what a pane shows of itself.
 use call_common::Answered;
-use call_common::record_at;
+use call_common::admit;
 use call_common::refused;
 use model::Console;
 use model::Pane;
 use model::Reply;
 use model::View;
-use refusals::call::call_refusal;
 ghost use mathlib.Core.Path.{_≡_};
 ghost use Rattle.model.specs.Replies.{response};
 ghost use Rattle.model.specs.Calls.{exec, on, shown};
@@ -34,14 +33,12 @@ pub fn look(screen: &[u8], stores: &[u8], console: Console, number: u32) -> Answ
     ensures { λ r. ⌜ answer r (now (screen .entry)) (now (stores .entry))
         ≡ exec (state console (now (screen .entry)) (now (stores .entry))) (on number calls.look) ⌝ }
 {
-    let first = call_refusal(screen.len(), stores.len(), console, number);
-    if first != 0 {
-        return refused(console, first);
+    let admission = admit(screen.len(), stores.len(), console, number);
+    if admission.refusal != 0 {
+        return refused(console, admission.refusal);
     }
-    let k = number as usize;
-    let pane = record_at(console, k);
     Answered {
         console,
-        reply: shown(pane),
+        reply: shown(admission.pane),
     }
 }

@@ -1,9 +1,8 @@
 // Start: a pane set to run from an address of its store.
 use call_common::Answered;
 use call_common::REFUSE_END;
-use call_common::record_at;
+use call_common::admit;
 use call_common::refused;
-use call_common::row_at;
 use call_common::with_record;
 use model::Console;
 use model::Pane;
@@ -11,8 +10,8 @@ use model::Progress;
 use model::Reply;
 use model::Returns;
 use model::Row;
-use refusals::call::call_refusal;
-use refusals::table::refuse;
+use model::STATUS_RUNNING;
+use words::number_if;
 ghost use mathlib.Core.Path.{_≡_};
 ghost use Rattle.model.specs.Calls.{exec, on, ownRefusal, started};
 ghost use Rattle.model.specs.Calls as calls;
@@ -26,10 +25,10 @@ const REFUSE_ODD: u8 = 3;
 fn start_refusal(row: Row, address: u32) -> u8
     ensures { λ r. ⌜ ((p : Pane) → r ≡ ownRefusal row p (calls.start address)) ⌝ }
 {
-    refuse(
+    number_if(
         address % 2 == 1,
         REFUSE_ODD,
-        refuse(row.len <= address, REFUSE_END, 0),
+        number_if(row.len <= address, REFUSE_END, 0),
     )
 }
 
@@ -39,7 +38,7 @@ fn started(pane: Pane, address: u32) -> Pane
 {
     Pane {
         progress: Progress {
-            status: 1,
+            status: STATUS_RUNNING,
             fault: 0,
             pointer: address,
         },
@@ -51,21 +50,20 @@ fn started(pane: Pane, address: u32) -> Pane
     }
 }
 
-// Sets the pane with a number to run from the address on; refused 3 if that is odd, 2 if it is not below the store's length.
+// Sets the pane with a number to run from the address on; refused 3 if that is odd, 2 if it is not below the
+// store's length.
 pub fn start(screen: &[u8], stores: &[u8], console: Console, number: u32, address: u32) -> Answered
     ensures { λ r. ⌜ answer r (now (screen .entry)) (now (stores .entry))
         ≡ exec (state console (now (screen .entry)) (now (stores .entry))) (on number (calls.start address)) ⌝ }
 {
-    let first = call_refusal(screen.len(), stores.len(), console, number);
-    if first != 0 {
-        return refused(console, first);
+    let admission = admit(screen.len(), stores.len(), console, number);
+    if admission.refusal != 0 {
+        return refused(console, admission.refusal);
     }
-    let k = number as usize;
-    let row = row_at(console, k);
-    let own = start_refusal(row, address);
+    let own = start_refusal(admission.row, address);
     if own != 0 {
         return refused(console, own);
     }
-    let pane = record_at(console, k);
-    with_record(console, k, started(pane, address), Reply::Done)
+    let pane = started(admission.pane, address);
+    with_record(console, number, pane, Reply::Done)
 }

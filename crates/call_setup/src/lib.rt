@@ -1,4 +1,5 @@
-// Set-up: the table is checked, and all eight pane records made fresh. Crate `console` has it under one name with the calls.
+// Set-up: the table is checked, and all eight pane records made fresh. Crate `console` has it under one name
+// with the calls.
 use call_common::Answered;
 use call_common::fresh;
 use call_common::refused;
@@ -9,8 +10,8 @@ ghost use mathlib.Core.Path.{_≡_};
 ghost use Rattle.model.specs.Calls.{setUp};
 ghost use Rattle.call_common.specs.Answers.{state, answer};
 
-// Accepts geometry and table with eight fresh pane records, whatever the record lent has for them; refused 6 to 11. Both
-// buffers keep every bit.
+// Accepts geometry and table with eight fresh pane records, whatever the record lent has for them; refused 6
+// to 11. Both buffers keep every bit.
 pub fn set_up(screen: &[u8], stores: &[u8], console: Console) -> Answered
     ensures { λ r. ⌜ answer r (now (screen .entry)) (now (stores .entry))
         ≡ setUp (state console (now (screen .entry)) (now (stores .entry))) ⌝ }

@@ -4,13 +4,11 @@ use mathlib.Core.List.{List, _++_, append-assoc}
 use Prim.Native.Nat.{ℕ, _+_, _-_, _≤_}
 use native.Mathlib.Omega.{arith}
 use lib.Dec.{ltb}
-use native.Mathlib.Nat.{add-sub-cancel-left}
 use lib.ListN.{length, take, drop}
 use lib.Seq.{paste, take-length, drop-drop}
 use borrow.Author.Tests.{ltb-true, ltb-false, lt-ltb, le-ltb}
-use Rattle.model.specs.Calls.{part, inPart}
+use Rattle.model.specs.Calls.{inPart}
 use Rattle.model.proofs.Decisions.{split}
-use Rattle.model.proofs.PartLaws.{length-part}
 
 pub ltb-room : (len a n : ℕ) → a ≤ len → ltb (len - a) n ≡ ltb len (a + n)
 ltb-room len a n h = split (ltb len (a + n))
@@ -23,8 +21,3 @@ paste-inPart l at new =
     ap (λ (m : List ℕ). take at l ++ m ++ drop (at + length new) l) (take-length new)
     ∙ append-assoc (take at l) new (drop (at + length new) l)
     ∙ ap (λ (m : List ℕ). take at l ++ (new ++ m)) (sym (drop-drop (length new) at l))
-
--- the length of a part that is lent on, from `at` up to `at + n`
-pub lent-length : (l : List ℕ) (at n : ℕ) → at + n ≤ length l → length (take (at + n - at) (drop at l)) ≡ n
-unfolding part
-lent-length l at n h = rw add-sub-cancel-left (length-part l at n h)

@@ -1,13 +1,12 @@
 // Peek: one byte of a pane's store.
 use call_common::Answered;
 use call_common::REFUSE_END;
+use call_common::admit;
 use call_common::refused;
-use call_common::row_at;
 use model::Console;
 use model::Reply;
 use model::Row;
-use refusals::call::call_refusal;
-use refusals::table::refuse;
+use words::number_if;
 ghost use mathlib.Core.Path.{_≡_};
 ghost use Prim.Native.Nat.{_<_};
 ghost use lib.ListN.{length, getD};
@@ -20,7 +19,7 @@ ghost use Rattle.call_common.specs.Answers.{state, answer};
 fn peek_refusal(row: Row, address: u32) -> u8
     ensures { λ r. ⌜ ((p : Pane) → r ≡ ownRefusal row p (calls.peek address)) ⌝ }
 {
-    refuse(row.len <= address, REFUSE_END, 0)
+    number_if(row.len <= address, REFUSE_END, 0)
 }
 
 // The byte at an address of a store.
@@ -31,24 +30,22 @@ fn byte_at(store: &[u8], address: usize) -> u8
     store[address]
 }
 
-// Answers the byte at an address of the store of the pane with a number; changes nothing; refused 2 past the store's end.
-// The pane's own part of the stores is lent on, and nothing else of it.
+// Answers the byte at an address of the store of the pane with a number; changes nothing; refused 2 past the
+// store's end. The pane's own part of the stores is lent on, and nothing else of it.
 pub fn peek(screen: &[u8], stores: &[u8], console: Console, number: u32, address: u32) -> Answered
     ensures { λ r. ⌜ answer r (now (screen .entry)) (now (stores .entry))
         ≡ exec (state console (now (screen .entry)) (now (stores .entry))) (on number (calls.peek address)) ⌝ }
 {
-    let first = call_refusal(screen.len(), stores.len(), console, number);
-    if first != 0 {
-        return refused(console, first);
+    let admission = admit(screen.len(), stores.len(), console, number);
+    if admission.refusal != 0 {
+        return refused(console, admission.refusal);
     }
-    let k = number as usize;
-    let row = row_at(console, k);
-    let own = peek_refusal(row, address);
+    let own = peek_refusal(admission.row, address);
     if own != 0 {
         return refused(console, own);
     }
-    let start = row.start as usize;
-    let end = start + row.len as usize;
+    let start = admission.row.start as usize;
+    let end = start + admission.row.len as usize;
     let value = byte_at(&stores[start..end], address as usize);
     Answered {
         console,

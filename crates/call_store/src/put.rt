@@ -1,13 +1,12 @@
 // Put: bytes written into a pane's store.
 use call_common::Answered;
 use call_common::REFUSE_END;
+use call_common::admit;
 use call_common::refused;
-use call_common::row_at;
 use model::Console;
 use model::Reply;
 use model::Row;
-use refusals::call::call_refusal;
-use refusals::table::refuse;
+use words::number_if;
 ghost use mathlib.Core.Path.{_≡_};
 ghost use Prim.Native.Nat.{_+_, _≤_};
 ghost use lib.ListN.{length};
@@ -24,13 +23,14 @@ fn put_refusal(row: Row, address: u32, bytes: &[u8]) -> u8
         return REFUSE_END;
     }
     let room = (row.len - address) as usize;
-    refuse(room < bytes.len(), REFUSE_END, 0)
+    number_if(room < bytes.len(), REFUSE_END, 0)
 }
 
 // The bytes stand in the store from the address on, all else kept.
 fn write(store: &mut [u8], address: usize, bytes: &[u8])
     requires { ⌜ address + length (now bytes) ≤ length (now store) ⌝ }
-    ensures { λ _. ⌜ now (store .exit) ≡ inPart (now (store .entry)) address (length (now (bytes .entry))) (now (bytes .entry)) ⌝ }
+    ensures { λ _. ⌜ now (store .exit)
+        ≡ inPart (now (store .entry)) address (length (now (bytes .entry))) (now (bytes .entry)) ⌝ }
 {
     let mut i = 0;
     while i < bytes.len() {
@@ -39,7 +39,8 @@ fn write(store: &mut [u8], address: usize, bytes: &[u8])
     }
 }
 
-// Writes the bytes into the store of the pane with a number, from the address on; refused 2 if they pass its end.
+// Writes the bytes into the store of the pane with a number, from the address on; refused 2 if they pass its
+// end. The pane's own part of the stores is lent on, and nothing else of it.
 pub fn put(
     screen: &[u8],
     stores: &mut [u8],
@@ -49,20 +50,19 @@ pub fn put(
     bytes: &[u8],
 ) -> Answered
     ensures { λ r. ⌜ answer r (now (screen .entry)) (now (stores .exit))
-        ≡ exec (state console (now (screen .entry)) (now (stores .entry))) (on number (calls.put address (now (bytes .entry)))) ⌝ }
+        ≡ exec (state console (now (screen .entry)) (now (stores .entry)))
+        (on number (calls.put address (now (bytes .entry)))) ⌝ }
 {
-    let first = call_refusal(screen.len(), stores.len(), console, number);
-    if first != 0 {
-        return refused(console, first);
+    let admission = admit(screen.len(), stores.len(), console, number);
+    if admission.refusal != 0 {
+        return refused(console, admission.refusal);
     }
-    let k = number as usize;
-    let row = row_at(console, k);
-    let own = put_refusal(row, address, bytes);
+    let own = put_refusal(admission.row, address, bytes);
     if own != 0 {
         return refused(console, own);
     }
-    let start = row.start as usize;
-    let end = start + row.len as usize;
+    let start = admission.row.start as usize;
+    let end = start + admission.row.len as usize;
     write(&mut stores[start..end], address as usize, bytes);
     Answered {
         console,

@@ -2,11 +2,11 @@
 use mathlib.Core.Path.{_≡_, refl, sym, ap, _∙_}
 use mathlib.Core.Bool.{Bool, true, false, cond, not}
 use mathlib.Core.List.{List, [], _∷_, _++_, append-nil, append-assoc}
-use Prim.Native.Nat.{ℕ, zero, suc, _+_, _≤_}
+use Prim.Native.Nat.{ℕ, zero, suc, _+_, _*_, _≤_}
 use native.Mathlib.Nat.{zero-add}
 use native.Mathlib.Numerals.{add-one}
 use native.Mathlib.Omega.{arith}
-use lib.ListN.{length}
+use lib.ListN.{length, length-append}
 use Rattle.model.specs.Ranges.{listed, joined}
 use Rattle.model.specs.Words.{digit}
 use Rattle.model.specs.declared.Surface.{Surface}
@@ -71,8 +71,8 @@ pub record SameLengths (c e : Canvas) : Type 0 where
 
 pub painted-lengths : (t : Target) (d : Dot) (c : Canvas) → SameLengths c (painted t d c)
 unfolding painted hit
-painted-lengths t d c = cond-ind (SameLengths c) (visible (t .surface) (t .clip) d) _ _
-    (λ e. changed-ind (λ (z : Canvas). SameLengths c (counted z)) (t .picking) (t .pane) (t .surface) _ c
+painted-lengths t d c = cond-ind (SameLengths c) (visible (t .area .surface) (t .clip) d) _ _
+    (λ e. changed-ind (λ (z : Canvas). SameLengths c (counted z)) (t .picking) (t .area .onscreen) (t .area .surface) _ c
     (record { screen = refl; store = refl }) (record { screen = change-length _ _ _; store = refl }) (record { screen = refl; store = change-length _ _ _ }))
     (λ e. record { screen = refl; store = refl })
 
@@ -86,20 +86,21 @@ paintedAll-lengths t (d ∷ ds) c =
 
 -- ## How many dots were visible
 
-painted-hits : (t : Target) (d : Dot) (c : Canvas) → painted t d c .hits ≡ c .hits + digit (visible (t .surface) (t .clip) d)
+painted-hits : (t : Target) (d : Dot) (c : Canvas) → painted t d c .hits ≡ c .hits + digit (visible (t .area .surface) (t .clip) d)
 unfolding painted hit
-painted-hits t d c = go (visible (t .surface) (t .clip) d)
+painted-hits t d c = go (visible (t .area .surface) (t .clip) d)
   where
     unchanged : (picking pane : Bool) (s : Surface) (ch : Change) → changedUnless picking pane s ch c .hits ≡ c .hits
     unchanged true pane s ch = refl
     unchanged false true s ch = refl
     unchanged false false s ch = refl
 
-    go : (v : Bool) → cond v (counted (changedUnless (t .picking) (t .pane) (t .surface) (changeOf (t .surface) (t .pen) d) c)) c .hits ≡ c .hits + digit v
-    go true = ap (λ (n : ℕ). n + 1) (unchanged (t .picking) (t .pane) (t .surface) _)
+    go : (v : Bool) → cond v (counted (changedUnless (t .picking) (t .area .onscreen) (t .area .surface) (changeOf (t .area .surface) (t .pen) d) c)) c .hits
+        ≡ c .hits + digit v
+    go true = ap (λ (n : ℕ). n + 1) (unchanged (t .picking) (t .area .onscreen) (t .area .surface) _)
     go false = omega arith
 
-pub paintedAll-hits : (t : Target) (ds : List Dot) (c : Canvas) → paintedAll t ds c .hits ≡ c .hits + hits (t .surface) (t .clip) ds
+pub paintedAll-hits : (t : Target) (ds : List Dot) (c : Canvas) → paintedAll t ds c .hits ≡ c .hits + hits (t .area .surface) (t .clip) ds
 unfolding paintedAll hits
 paintedAll-hits t [] c = omega arith
 paintedAll-hits t (d ∷ ds) c = omega (arith, paintedAll-hits t ds (painted t d c), painted-hits t d c)
@@ -108,15 +109,25 @@ digit-le : (b : Bool) → digit b ≤ 1
 digit-le true = omega arith
 digit-le false = omega arith
 
-pub hits-length : (t : Target) (ds : List Dot) → hits (t .surface) (t .clip) ds ≤ length ds
+pub hits-length : (t : Target) (ds : List Dot) → hits (t .area .surface) (t .clip) ds ≤ length ds
 unfolding hits
 hits-length t [] = omega arith
-hits-length t (d ∷ ds) = omega (arith, hits-length t ds, digit-le (visible (t .surface) (t .clip) d))
+hits-length t (d ∷ ds) = omega (arith, hits-length t ds, digit-le (visible (t .area .surface) (t .clip) d))
 
 pub listed-length : {A : Type 0} (i n : ℕ) (f : ℕ → A) → length (listed i n f) ≡ n
 unfolding listed
 listed-length i zero f = refl
 listed-length i (suc n) f = ap suc (listed-length (suc i) n f)
+
+-- so many lists of at most so many
+pub joined-length : {A : Type 0} (i n most : ℕ) (f : ℕ → List A) → ((k : ℕ) → length (f k) ≤ most) → length (joined i n f) ≤ n * most
+unfolding joined
+joined-length i zero most f h = omega arith
+joined-length i (suc n) most f h =
+    omega (arith, length-append (f i) (joined (suc i) n f), h i, joined-length (suc i) n most f h, one-more)
+  where
+    one-more : suc n * most ≡ most + n * most
+    one-more = omega arith
 
 -- ## Each buffer
 
@@ -129,7 +140,8 @@ changesIf false false s cs l = l
 -- a visible dot's change is made first
 changesIf-keep : (picking pane v : Bool) (s : Surface) (ch : Change) (cs : List Change) (c : Canvas)
     → (changesIf picking pane s cs (cond v (counted (changedUnless picking pane s ch c)) c .screen) ≡ changesIf picking pane s (keep v ch cs) (c .screen))
-    × (changesIf picking (not pane) s cs (cond v (counted (changedUnless picking pane s ch c)) c .store) ≡ changesIf picking (not pane) s (keep v ch cs) (c .store))
+    × (changesIf picking (not pane) s cs (cond v (counted (changedUnless picking pane s ch c)) c .store)
+    ≡ changesIf picking (not pane) s (keep v ch cs) (c .store))
 unfolding changes
 changesIf-keep true pane true s ch cs c = (refl, refl)
 changesIf-keep true pane false s ch cs c = (refl, refl)
@@ -140,25 +152,29 @@ changesIf-keep false false false s ch cs c = (refl, refl)
 
 module _ (t : Target) where
   pub paintedAll-screen : (ds : List Dot) (c : Canvas)
-      → paintedAll t ds c .screen ≡ changesIf (t .picking) (t .pane) (t .surface) (changesOf (t .surface) (t .clip) (t .pen) ds) (c .screen)
+      → paintedAll t ds c .screen ≡ changesIf (t .picking) (t .area .onscreen) (t .area .surface) (changesOf (t .area .surface) (t .clip) (t .pen) ds)
+      (c .screen)
   unfolding paintedAll changesOf painted hit changes
-  paintedAll-screen [] c = none (t .picking) (t .pane)
+  paintedAll-screen [] c = none (t .picking) (t .area .onscreen)
     where
-      none : (picking here : Bool) → c .screen ≡ changesIf picking here (t .surface) [] (c .screen)
+      none : (picking here : Bool) → c .screen ≡ changesIf picking here (t .area .surface) [] (c .screen)
       none true here = refl
       none false true = refl
       none false false = refl
   paintedAll-screen (d ∷ ds) c = paintedAll-screen ds (painted t d c)
-      ∙ changesIf-keep (t .picking) (t .pane) (visible (t .surface) (t .clip) d) (t .surface) (changeOf (t .surface) (t .pen) d) (changesOf (t .surface) (t .clip) (t .pen) ds) c .0
+      ∙ changesIf-keep (t .picking) (t .area .onscreen) (visible (t .area .surface) (t .clip) d) (t .area .surface) (changeOf (t .area .surface) (t .pen) d)
+      (changesOf (t .area .surface) (t .clip) (t .pen) ds) c .0
 
   pub paintedAll-store : (ds : List Dot) (c : Canvas)
-      → paintedAll t ds c .store ≡ changesIf (t .picking) (not (t .pane)) (t .surface) (changesOf (t .surface) (t .clip) (t .pen) ds) (c .store)
+      → paintedAll t ds c .store ≡ changesIf (t .picking) (not (t .area .onscreen)) (t .area .surface) (changesOf (t .area .surface) (t .clip) (t .pen) ds)
+      (c .store)
   unfolding paintedAll changesOf painted hit changes
-  paintedAll-store [] c = none (t .picking) (not (t .pane))
+  paintedAll-store [] c = none (t .picking) (not (t .area .onscreen))
     where
-      none : (picking here : Bool) → c .store ≡ changesIf picking here (t .surface) [] (c .store)
+      none : (picking here : Bool) → c .store ≡ changesIf picking here (t .area .surface) [] (c .store)
       none true here = refl
       none false true = refl
       none false false = refl
   paintedAll-store (d ∷ ds) c = paintedAll-store ds (painted t d c)
-      ∙ changesIf-keep (t .picking) (t .pane) (visible (t .surface) (t .clip) d) (t .surface) (changeOf (t .surface) (t .pen) d) (changesOf (t .surface) (t .clip) (t .pen) ds) c .1
+      ∙ changesIf-keep (t .picking) (t .area .onscreen) (visible (t .area .surface) (t .clip) d) (t .area .surface) (changeOf (t .area .surface) (t .pen) d)
+      (changesOf (t .area .surface) (t .clip) (t .pen) ds) c .1

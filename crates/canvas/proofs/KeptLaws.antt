@@ -16,7 +16,8 @@ use Rattle.model.proofs.Decisions.{cond-ind}
 use Rattle.model.proofs.PlaceLaws.{in-rows}
 use Rattle.model.proofs.PixelLaws.{inside-true}
 use Rattle.canvas.specs.declared.Target.{Target}
-use Rattle.canvas.specs.Canvas.{Canvas, changedUnless, hit, painted, paintedAll, rowsEnd, Clear, Reach}
+use Rattle.canvas.specs.Canvas.{Canvas, changedUnless, hit, painted, paintedAll, Clear, Reach}
+use Rattle.bitmaps.specs.Areas.{rowsEnd}
 
 -- the surface's columns lie in its rows
 pub record Laid (u : Surface) : Type 0 where
@@ -32,7 +33,8 @@ place-high : (u : Surface) (x y : ℕ) → Laid u → inside u x y ≡ true → 
 unfolding placeBit
 place-high u x y h e =
     let k = inside-true u x y e in
-    in-rows (u .base) (u .words) (u .bits) (h .depth) (u .left + u .width) (h .right) (u .left + x) (u .top + y) (u .top + u .height) (omega arith) (omega arith)
+    in-rows (u .base) (u .words) (u .bits) (h .depth) (u .left + u .width) (h .right) (u .left + x) (u .top + y) (u .top + u .height) (omega arith)
+    (omega arith)
 
 -- a change touches the surface's bytes alone
 pub change-byte : (u : Surface) (c : Change) (s : List ℕ) → Laid u → (j : ℕ) → (j < u .base) ⊎ (rowsEnd u ≤ j) → getD (change u c s) j 0 ≡ getD s j 0
@@ -44,18 +46,18 @@ change-byte u c s h j o = cond-ind (λ (l : List ℕ). getD l j 0 ≡ getD s j 0
     apart e (inl l) q = let a = place-low u (c .x) (c .y) in omega arith
     apart e (inr l) q = let a = place-high u (c .x) (c .y) h e in omega arith
 
-module _ (t : Target) (h : Laid (t .surface)) (j : ℕ) where
-  changed-byte : (picking pane : Bool) → (pane ≡ true) ⊎ ((j < t .surface .base) ⊎ (rowsEnd (t .surface) ≤ j)) → (ch : Change) (c : Canvas)
-      → getD (changedUnless picking pane (t .surface) ch c .store) j 0 ≡ getD (c .store) j 0
+module _ (t : Target) (h : Laid (t .area .surface)) (j : ℕ) where
+  changed-byte : (picking pane : Bool) → (pane ≡ true) ⊎ ((j < t .area .surface .base) ⊎ (rowsEnd (t .area .surface) ≤ j)) → (ch : Change) (c : Canvas)
+      → getD (changedUnless picking pane (t .area .surface) ch c .store) j 0 ≡ getD (c .store) j 0
   changed-byte true pane o ch c = refl
   changed-byte false true o ch c = refl
   changed-byte false false (inl e) ch c = let z : _≡_ {A = ℕ} 0 1 = cc in absurd (let n : ⊥ = omega arith in n)
-  changed-byte false false (inr o) ch c = change-byte (t .surface) ch (c .store) h j o
+  changed-byte false false (inr o) ch c = change-byte (t .area .surface) ch (c .store) h j o
 
   painted-byte : Clear t j → (d : Dot) (c : Canvas) → getD (painted t d c .store) j 0 ≡ getD (c .store) j 0
   unfolding painted hit
-  painted-byte o d c = cond-ind (λ (z : Canvas). getD (z .store) j 0 ≡ getD (c .store) j 0) (visible (t .surface) (t .clip) d) _ _
-      (λ e. changed-byte (t .picking) (t .pane) o _ c) (λ e. refl)
+  painted-byte o d c = cond-ind (λ (z : Canvas). getD (z .store) j 0 ≡ getD (c .store) j 0) (visible (t .area .surface) (t .clip) d) _ _
+      (λ e. changed-byte (t .picking) (t .area .onscreen) o _ c) (λ e. refl)
 
   pub paintedAll-byte : Clear t j → (ds : List Dot) (c : Canvas) → getD (paintedAll t ds c .store) j 0 ≡ getD (c .store) j 0
   unfolding paintedAll
@@ -70,7 +72,8 @@ pub agree-refl : (t : Target) (l : List ℕ) → Agree t l l
 agree-refl t l = record { bytes = λ j o. refl }
 
 -- .. as dots leave them
-pub agree-painted : (t : Target) → Laid (t .surface) → (ds : List Dot) (c : Canvas) (old : List ℕ) → Agree t old (c .store) → Agree t old (paintedAll t ds c .store)
+pub agree-painted : (t : Target) → Laid (t .area .surface) → (ds : List Dot) (c : Canvas) (old : List ℕ) → Agree t old (c .store)
+    → Agree t old (paintedAll t ds c .store)
 agree-painted t h ds c old a = record { bytes = λ j o. paintedAll-byte t h j o ds c ∙ a .bytes j o }
 
 -- a word in reach

@@ -5,3 +5,4 @@ pub mod TargetLaws
 pub mod PaintLaws
 pub mod PlanLaws
 pub mod ReachLaws
+pub mod LoopLaws

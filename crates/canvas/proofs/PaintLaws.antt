@@ -23,6 +23,7 @@ module _ (t : Target) (ds : List Dot) (c₀ : Canvas) {c : Canvas} (e : c ≡ pa
   hits-painted = omega (arith, ap (λ (z : Canvas). z .hits) e, paintedAll-hits t ds c₀, hits-length t ds)
 
 -- a loop's turn draws the next of its dots
-pub painted-next : (t : Target) (i : ℕ) (f : ℕ → Dot) (c₀ : Canvas) {c c′ : Canvas} {d : Dot} → c ≡ paintedAll t (listed 0 i f) c₀ → d ≡ f i → c′ ≡ painted t d c
+pub painted-next : (t : Target) (i : ℕ) (f : ℕ → Dot) (c₀ : Canvas) {c c′ : Canvas} {d : Dot} → c ≡ paintedAll t (listed 0 i f) c₀ → d ≡ f i → c′
+    ≡ painted t d c
     → c′ ≡ paintedAll t (listed 0 (i + 1) f) c₀
 painted-next t i f c₀ e q p = p ∙ ap₂ (painted t) q e ∙ sym (paintedAll-next t i f c₀)

@@ -18,7 +18,8 @@ use Rattle.model.specs.Effects.{draws}
 use Rattle.model.specs.Steps.{onStore, onScreen, madeBy, drewPane, planOf}
 use Rattle.model.specs.Runs.{carried}
 use Rattle.canvas.specs.Canvas.{Canvas, canvas, paintedAll}
-use Rattle.canvas.specs.Targets.{isPane, targetOf}
+use Rattle.canvas.specs.Targets.{targetOf}
+use Rattle.bitmaps.specs.Areas.{isPane}
 use Rattle.canvas.proofs.CanvasLaws.{changesIf, paintedAll-hits, paintedAll-screen, paintedAll-store}
 
 -- the canvas after a pane's drawing

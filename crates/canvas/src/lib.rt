@@ -1,120 +1,48 @@
-// Drawing on the active bitmap, which lies in the screen or in the pane's store: one dot through clip, transparency and
-// pick mode. Every drawing command is a list of such dots.
+// Drawing on the active bitmap, which lies in the screen or in the pane's store: one dot through clip,
+// transparency and pick mode. Every drawing command is a list of such dots.
 ghost use mathlib.Core.Path.{_≡_};
-ghost use Prim.Native.Nat.{_+_, _≤_, _<_, _^_};
+ghost use Prim.Native.Nat.{_≤_, _<_};
 ghost use lib.IntN.{pos};
 ghost use lib.ListN.{length};
-ghost use Rattle.model.specs.Bitmaps.{surfaceOf};
-ghost use Rattle.model.specs.Coordinates.{at, offset, place};
+ghost use Rattle.model.specs.Coordinates.{at, coord};
 ghost use Rattle.model.specs.Dots.{dot};
 ghost use Rattle.model.specs.Pixels.{penSource, patternSource};
-ghost use Rattle.model.specs.Words.{bit};
-ghost use Rattle.coordinates.specs.Offsets.{turned};
-ghost use Rattle.canvas.specs.Canvas.{canvas, changedUnless, painted};
-ghost use Rattle.canvas.specs.Targets.{Ready, InClip, changeWith, isPane, targetOf};
-use coordinates::Spot;
-use model::Bitmap;
+ghost use Rattle.canvas.specs.Canvas.{canvas, changedUnless, painted, countEnd};
+ghost use Rattle.canvas.specs.Targets.{Ready, InClip, changeWith, targetOf, courseOf, placeOn};
+use bitmaps::Area;
+use coordinates::Index;
 use model::Clip;
-use model::Geometry;
+use model::Frame;
 use model::Pane;
 use model::Pen;
 use model::Point;
-use model::Row;
 use model::Source;
-use model::Surface;
 use raster::Truth;
 
-// Where and how a command draws: the active bitmap, which lies in the screen if `pane` and else in the store, its clip,
-// the pen, and the truth table of the pen's operation, looked up once a command.
+// Where and how a command draws: the area of the active bitmap, pick mode, the clip, the pen, and the truth
+// table of the pen's operation, looked up once a command.
 pub struct Target {
-    pub pane: bool,
+    pub area: Area,
     pub picking: bool,
-    pub surface: Surface,
     pub clip: Clip,
     pub pen: Pen,
     pub truth: Truth,
 }
 
-// The surface of a bitmap: the pane's rectangle of the screen, or a bitmap in the store.
-pub fn surface_of(g: Geometry, r: Row, b: Bitmap) -> Surface
-    requires { ⌜ (g .width ≤ 4096) × (g .depth ≤ 8) ⌝ }
-    ensures { λ s. ⌜ s ≡ surfaceOf g r b ⌝ }
-{
-    match b {
-        Bitmap::Absent => Surface {
-            base: 0,
-            words: 0,
-            bits: 0,
-            left: 0,
-            top: 0,
-            width: 0,
-            height: 0,
-        },
-        Bitmap::Pane {
-            xmax: _,
-            ymax: _,
-            bits: _,
-        } => Surface {
-            base: 0,
-            words: bitmaps::row_words(g.width as usize, g.depth as usize),
-            bits: g.depth as usize,
-            left: r.left as usize,
-            top: r.top as usize,
-            width: r.width as usize,
-            height: r.height as usize,
-        },
-        Bitmap::Store {
-            address,
-            xmax,
-            ymax,
-            bits,
-        } => Surface {
-            base: address as usize,
-            words: bitmaps::row_words(xmax as usize + 1, bits as usize),
-            bits: bits as usize,
-            left: 0,
-            top: 0,
-            width: xmax as usize + 1,
-            height: ymax as usize + 1,
-        },
-    }
-}
-
-// Whether a bitmap is the pane.
-pub fn is_pane(b: Bitmap) -> bool
-    ensures { λ r. ⌜ r ≡ isPane b ⌝ }
-{
-    match b {
-        Bitmap::Absent => false,
-        Bitmap::Pane {
-            xmax: _,
-            ymax: _,
-            bits: _,
-        } => true,
-        Bitmap::Store {
-            address: _,
-            xmax: _,
-            ymax: _,
-            bits: _,
-        } => false,
-    }
-}
-
 // Where and how a pane's record says that commands draw.
-pub fn target_of(g: Geometry, r: Row, p: Pane) -> Target
-    requires { ⌜ (g .width ≤ 4096) × (g .depth ≤ 8) × (p .pen .op < 16) ⌝ }
-    ensures { λ t. ⌜ t ≡ targetOf g r p ⌝ }
+pub fn target_of(f: Frame, p: Pane) -> Target
+    requires { ⌜ (f .geometry .width ≤ 4096) × (f .geometry .depth ≤ 8) × (p .pen .op < 16) ⌝ }
+    ensures { λ t. ⌜ t ≡ targetOf (f .geometry) (f .row) p ⌝ }
 {
     let bitmap = p.bitmap;
     let clip = p.clip;
     let pen = p.pen;
     let flags = p.flags;
-    let surface = surface_of(g, r, bitmap);
+    let area = bitmaps::area_of(f, bitmap);
     let truth = raster::truth_of(pen.op);
     Target {
-        pane: is_pane(bitmap),
+        area,
         picking: flags.picking,
-        surface,
         clip,
         pen,
         truth,
@@ -127,12 +55,34 @@ pub struct Heading {
     pub up: bool,
 }
 
-// Bit k of a word.
-pub fn bit_of(w: u16, k: usize) -> bool
-    requires { ⌜ k < 16 ⌝ }
-    ensures { λ r. ⌜ r ≡ bit w k ⌝ }
+// Where a command starts, and which way it goes from there.
+pub struct Course {
+    pub from: Point,
+    pub heading: Heading,
+}
+
+// The course of a command by (dx,dy) from a position.
+pub fn course_of(from: Point, dx: u16, dy: u16) -> Course
+    ensures { λ r. ⌜ r ≡ courseOf from (coord dx) (coord dy) ⌝ }
 {
-    (w >> k) % 2 == 1
+    let left = coordinates::is_negative(dx);
+    let up = coordinates::is_negative(dy);
+    let heading = Heading { left, up };
+    Course { from, heading }
+}
+
+// How far a pixel lies from the start of a course, along each axis.
+pub struct Offset {
+    pub x: usize,
+    pub y: usize,
+}
+
+// What a drawing command answers: where the position then is, whether the trap flag is to be set, and how
+// many of its pixels are visible.
+pub struct Drawn {
+    pub position: Point,
+    pub trap: bool,
+    pub hits: usize,
 }
 
 // What a bit of a pattern or cell puts down.
@@ -152,22 +102,25 @@ pub fn pen_source(pen: Pen, transparent: bool, on: bool) -> Source
 pub fn pattern_source(pen: Pen, i: usize) -> Source
     ensures { λ r. ⌜ r ≡ patternSource pen i ⌝ }
 {
-    let on = bit_of(pen.pattern, 15 - i % 16);
+    let on = words::bit_of(pen.pattern, 15 - i % 16);
     pen_source(pen, pen.transparent, on)
 }
 
 // Pixel (x,y) of the bitmap, which lies in the clip, blended with a source; nothing in pick mode.
-fn put(screen: &mut [u8], store: &mut [u8], t: Target, x: usize, y: usize, source: Source)
+fn set_pixel(screen: &mut [u8], store: &mut [u8], t: Target, x: usize, y: usize, source: Source)
     requires { ⌜ Ready t (length (now screen)) (length (now store)) × InClip t x y ⌝ }
-    ensures { λ _. ⌜ canvas (now (screen .exit)) (now (store .exit)) 0 ≡ changedUnless (t .picking) (t .pane) (t .surface) (changeWith t source x y) (canvas (now (screen .entry)) (now (store .entry)) 0) ⌝ }
+    ensures { λ _. ⌜ canvas (now (screen .exit)) (now (store .exit)) 0
+        ≡ changedUnless (t .picking) (t .area .onscreen) (t .area .surface) (changeWith t source x y)
+        (canvas (now (screen .entry)) (now (store .entry)) 0) ⌝ }
 {
     if t.picking {
         return;
     }
-    let s = t.surface;
+    let area = t.area;
+    let s = area.surface;
     let pen = t.pen;
     let truth = t.truth;
-    if t.pane {
+    if area.onscreen {
         raster::blend(screen, s, pen, truth, x, y, source);
     } else {
         raster::blend(store, s, pen, truth, x, y, source);
@@ -184,38 +137,41 @@ pub fn plot(
     source: Source,
     hits: usize,
 ) -> usize
-    requires { ⌜ Ready t (length (now screen)) (length (now store)) × InClip t x y × (hits < 2 ^ 63) ⌝ }
-    ensures { λ r. ⌜ canvas (now (screen .exit)) (now (store .exit)) r ≡ painted t (dot (at (pos x) (pos y)) source) (canvas (now (screen .entry)) (now (store .entry)) hits) ⌝ }
+    requires { ⌜ Ready t (length (now screen)) (length (now store)) × InClip t x y × (hits < countEnd) ⌝ }
+    ensures { λ r. ⌜ canvas (now (screen .exit)) (now (store .exit)) r
+        ≡ painted t (dot (at (pos x) (pos y)) source) (canvas (now (screen .entry)) (now (store .entry)) hits) ⌝ }
 {
     match source {
         Source::Nothing => hits,
         _ => {
-            put(screen, store, t, x, y, source);
+            set_pixel(screen, store, t, x, y, source);
             hits + 1
         }
     }
 }
 
-// The dot kx along x and ky along y from a position, in a heading: hits, or one more if it is visible.
+// The dot at an offset on a course: hits, or one more if it is visible.
 pub fn draw_dot(
     screen: &mut [u8],
     store: &mut [u8],
     t: Target,
-    from: Point,
-    h: Heading,
-    kx: usize,
-    ky: usize,
+    course: Course,
+    o: Offset,
     source: Source,
     hits: usize,
 ) -> usize
-    requires { ⌜ Ready t (length (now screen)) (length (now store)) × (kx ≤ 65536) × (ky ≤ 65536) × (hits < 2 ^ 63) ⌝ }
-    ensures { λ r. ⌜ canvas (now (screen .exit)) (now (store .exit)) r ≡ painted t (dot (offset (place from) (turned (h .left) kx) (turned (h .up) ky)) source) (canvas (now (screen .entry)) (now (store .entry)) hits) ⌝ }
+    requires { ⌜ Ready t (length (now screen)) (length (now store))
+        × (o .x ≤ 65536) × (o .y ≤ 65536) × (hits < countEnd) ⌝ }
+    ensures { λ r. ⌜ canvas (now (screen .exit)) (now (store .exit)) r
+        ≡ painted t (dot (placeOn course o) source) (canvas (now (screen .entry)) (now (store .entry)) hits) ⌝ }
 {
     let clip = t.clip;
-    let Spot::At(x) = coordinates::spot_between(from.x, h.left, kx, clip.xmin, clip.xmax) else {
+    let from = course.from;
+    let h = course.heading;
+    let Index::At(x) = coordinates::index_between(from.x, h.left, o.x, clip.xmin, clip.xmax) else {
         return hits;
     };
-    let Spot::At(y) = coordinates::spot_between(from.y, h.up, ky, clip.ymin, clip.ymax) else {
+    let Index::At(y) = coordinates::index_between(from.y, h.up, o.y, clip.ymin, clip.ymax) else {
         return hits;
     };
     plot(screen, store, t, x, y, source, hits)

@@ -1,5 +1,5 @@
-// The face pinned: set-up and every call, each called once by the name that this crate hands it on under. The contract is that of the very
-// call, so no line of the face can name another.
+// The face pinned: set-up and every call, each called once by the name that this crate hands it on under. The
+// contract is that of the very call, so no line of the face can name another.
 use call_common::Answered;
 use model::Console;
 ghost use mathlib.Core.Path.{_≡_};
@@ -23,7 +23,8 @@ fn put(
     bytes: &[u8],
 ) -> Answered
     ensures { λ r. ⌜ answer r (now (screen .entry)) (now (stores .exit))
-        ≡ exec (state console (now (screen .entry)) (now (stores .entry))) (on number (calls.put address (now (bytes .entry)))) ⌝ }
+        ≡ exec (state console (now (screen .entry)) (now (stores .entry)))
+        (on number (calls.put address (now (bytes .entry)))) ⌝ }
 {
     crate::put(screen, stores, console, number, address, bytes)
 }

@@ -1,2 +1,3 @@
 -- Laws of signed numbers.
 pub mod SignedLaws
+pub mod WrapLaws

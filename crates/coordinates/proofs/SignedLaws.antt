@@ -11,10 +11,10 @@ use borrow.Author.Tests.{lt-ltb, le-ltb, ltb-true, ltb-false, le-leb, lt-leb}
 use mir.Syntax.{w32, w64}
 use mir.Val.{SFits, Fits, toZ}
 use mir.Facts.{toZ-pos}
-use Rattle.model.specs.Coordinates.{coord, signAs, negative}
+use Rattle.model.specs.Coordinates.{coord, signAs, negative, index}
 use Rattle.model.proofs.Decisions.{split}
-use Rattle.coordinates.specs.Offsets.{turned, spotOf}
-use Rattle.coordinates.specs.declared.Spot.the-variants.{At, Outside}
+use Rattle.coordinates.specs.Offsets.{directed, indexIn}
+use Rattle.coordinates.specs.declared.Index.the-variants.{At, Outside}
 
 -- ## Magnitudes
 
@@ -38,6 +38,21 @@ natAbs-mag (pos k) = omega arith
 natAbs-mag (negsuc k) = omega arith
 
 -- ## A 16-bit coordinate
+
+pub natAbs-coord : (d : ℕ) → natAbs (coord d) ≤ 32768
+natAbs-coord d = split (ltb d 32768)
+    (λ e. let l = ltb-true d 32768 e in rw e (omega arith))
+    (λ e. let l = ltb-false d 32768 e in rw e (omega arith))
+
+pub index-coord : (d : ℕ) → index (coord d) ≤ 32767
+index-coord d = split (ltb d 32768)
+    (λ e. let l = ltb-true d 32768 e in rw e (omega arith))
+    (λ e. rw e (omega arith))
+
+pub natAbs-negate : (z : ℤ) → natAbs (negℤ z) ≡ natAbs z
+natAbs-negate (pos zero) = refl
+natAbs-negate (pos (suc n)) = refl
+natAbs-negate (negsuc n) = refl
 
 pub coord-low : (p : ℕ) → p < 32768 → coord p ≡ pos p
 coord-low p h = rw (lt-ltb p 32768 h)
@@ -81,9 +96,9 @@ diff-fits z k h g = small32 (omega (arith, mag-add z (negℤ (pos k)), mag-neg (
 -- ## Directions
 
 -- "each with its sign"
-pub signAs-turned : (d : ℤ) (k : ℕ) → signAs d k ≡ turned (negative d) k
-signAs-turned (pos d) k = refl
-signAs-turned (negsuc d) k = refl
+pub signAs-directed : (d : ℤ) (k : ℕ) → signAs d k ≡ directed (negative d) k
+signAs-directed (pos d) k = refl
+signAs-directed (negsuc d) k = refl
 
 -- ## Indices
 
@@ -92,17 +107,17 @@ pub cast-between : (z : ℤ) (lo : ℕ) → SFits w32 z → ltZ z (pos lo) ≡ f
 cast-between (pos k) lo f h = (tt, record { fits = let g : k < 2147483648 = f .sfits in omega arith })
 cast-between (negsuc k) lo f h = absurd (subst T h tt)
 
-pub spot-low : (lo hi : ℕ) (z : ℤ) → ltZ z (pos lo) ≡ true → Outside ≡ spotOf lo hi z
-unfolding spotOf
-spot-low lo hi (pos k) h = let l = ltb-true k lo h in rw (lt-leb lo k l)
-spot-low lo hi (negsuc k) h = refl
+pub index-low : (lo hi : ℕ) (z : ℤ) → ltZ z (pos lo) ≡ true → Outside ≡ indexIn lo hi z
+unfolding indexIn
+index-low lo hi (pos k) h = let l = ltb-true k lo h in rw (lt-leb lo k l)
+index-low lo hi (negsuc k) h = refl
 
-pub spot-high : (lo hi : ℕ) (z : ℤ) → ltZ z (pos lo) ≡ false → ltZ (pos hi) z ≡ true → Outside ≡ spotOf lo hi z
-unfolding spotOf
-spot-high lo hi (pos k) g h = let l = ltb-true hi k h in let m = ltb-false k lo g in rw (le-leb lo k m, lt-leb k hi l)
-spot-high lo hi (negsuc k) g h = refl
+pub index-high : (lo hi : ℕ) (z : ℤ) → ltZ z (pos lo) ≡ false → ltZ (pos hi) z ≡ true → Outside ≡ indexIn lo hi z
+unfolding indexIn
+index-high lo hi (pos k) g h = let l = ltb-true hi k h in let m = ltb-false k lo g in rw (le-leb lo k m, lt-leb k hi l)
+index-high lo hi (negsuc k) g h = refl
 
-pub spot-at : (lo hi : ℕ) (z : ℤ) → ltZ z (pos lo) ≡ false → ltZ (pos hi) z ≡ false → At (natAbs z) ≡ spotOf lo hi z
-unfolding spotOf
-spot-at lo hi (pos k) g h = let l = ltb-false hi k h in let m = ltb-false k lo g in rw (le-leb lo k m, le-leb k hi l)
-spot-at lo hi (negsuc k) g h = absurd (subst T g tt)
+pub index-at : (lo hi : ℕ) (z : ℤ) → ltZ z (pos lo) ≡ false → ltZ (pos hi) z ≡ false → At (natAbs z) ≡ indexIn lo hi z
+unfolding indexIn
+index-at lo hi (pos k) g h = let l = ltb-false hi k h in let m = ltb-false k lo g in rw (le-leb lo k m, le-leb k hi l)
+index-at lo hi (negsuc k) g h = absurd (subst T g tt)

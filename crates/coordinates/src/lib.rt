@@ -1,9 +1,10 @@
-// Coordinates: 16-bit patterns read as signed numbers, offsets with their sign, moves that wrap. Signed arithmetic stays here.
+// Coordinates: 16-bit patterns read as signed numbers, offsets with their sign, moves that wrap. Signed
+// arithmetic stays here.
 ghost use mathlib.Core.Path.{_≡_};
 ghost use Prim.Native.Nat.{_≤_, _<_};
 ghost use lib.IntN.{natAbs, _+ℤ_};
 ghost use Rattle.model.specs.Coordinates.{coord, negative, moved};
-ghost use Rattle.coordinates.specs.Offsets.{turned, spotOf};
+ghost use Rattle.coordinates.specs.Offsets.{directed, indexIn};
 use model::Point;
 
 // The whole number that a 16-bit pattern stands for.
@@ -42,7 +43,7 @@ pub fn magnitude(d: u16) -> usize
 // at + k, or at - k if back.
 pub fn along(at: u16, back: bool, k: usize) -> i32
     requires { ⌜ k ≤ 65536 ⌝ }
-    ensures { λ r. ⌜ r ≡ coord at +ℤ turned back k ⌝ }
+    ensures { λ r. ⌜ r ≡ coord at +ℤ directed back k ⌝ }
 {
     let from = signed(at);
     if back {
@@ -53,24 +54,24 @@ pub fn along(at: u16, back: bool, k: usize) -> i32
 }
 
 // A coordinate as an index from lo to hi, or outside.
-pub enum Spot {
+pub enum Index {
     At(usize),
     Outside,
 }
 
 // Where at + k, or at - k if back, lies between lo and hi.
-pub fn spot_between(at: u16, back: bool, k: usize, lo: u16, hi: u16) -> Spot
+pub fn index_between(at: u16, back: bool, k: usize, lo: u16, hi: u16) -> Index
     requires { ⌜ k ≤ 65536 ⌝ }
-    ensures { λ r. ⌜ r ≡ spotOf lo hi (coord at +ℤ turned back k) ⌝ }
+    ensures { λ r. ⌜ r ≡ indexIn lo hi (coord at +ℤ directed back k) ⌝ }
 {
     let z = along(at, back, k);
     if z < lo as i32 {
-        return Spot::Outside;
+        return Index::Outside;
     }
     if z > hi as i32 {
-        return Spot::Outside;
+        return Index::Outside;
     }
-    Spot::At(z as usize)
+    Index::At(z as usize)
 }
 
 // The position after a move, wrapped at 16 bits: a wrapping add on its bit patterns.

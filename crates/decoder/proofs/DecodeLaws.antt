@@ -8,13 +8,13 @@ use lib.Dec.{eqb, ltb}
 use lib.ListN.{getD}
 use borrow.Author.Tests.{eqb-false, ltb-false}
 use Rattle.model.specs.Words.{wordAt, address, addressEnd}
-use Rattle.model.specs.Commands.{Addressed, linkTo, callTo, bitmapAt, fontAt, pairsAt, triplesAt, sourceAt, stringAt, shapeOf, parameter, commandOf, fetch, decode}
+use Rattle.model.specs.Commands.{Addressed, linkTo, callTo, bitmapAt, fontAt, pairsAt, triplesAt, sourceAt, stringAt, opcodeOf, parameter, commandOf, fetch}
+use Rattle.model.specs.Commands.{decode}
 use Rattle.model.specs.declared.Opcode.{Opcode}
 use Rattle.model.specs.declared.Opcode.the-variants as opcode
-use Rattle.model.specs.declared.Shape.{Shape}
-use Rattle.model.specs.declared.Shape.the-variants.{Known, Unknown}
+use Rattle.model.specs.declared.OpcodeEntry.{OpcodeEntry}
+use Rattle.model.specs.declared.OpcodeEntry.the-variants.{Known, Unknown}
 use Rattle.model.specs.declared.Command.{Command}
-use Rattle.model.specs.declared.Command.the-variants as command
 use Rattle.model.specs.declared.Decoded.the-variants.{Do, End, Fault}
 use Rattle.model.proofs.Decisions.{split, either-false}
 
@@ -34,7 +34,7 @@ fault-do e = let z : _≡_ {A = ℕ} 0 1 = cc in omega arith
 end-do : {k : Command} {next : ℕ} → End ≡ Do k next → ⊥
 end-do e = let z : _≡_ {A = ℕ} 0 1 = cc in omega arith
 
-fetch-do : (len : ℕ) (s : List ℕ) (at : ℕ) (h : Shape) (k : Command) (next : ℕ) → at % 2 ≡ 0 → fetch len s at h ≡ Do k next → Fetched len s at k next
+fetch-do : (len : ℕ) (s : List ℕ) (at : ℕ) (h : OpcodeEntry) (k : Command) (next : ℕ) → at % 2 ≡ 0 → fetch len s at h ≡ Do k next → Fetched len s at k next
 unfolding fetch
 fetch-do len s at Unknown k next v e = absurd (fault-do e)
 fetch-do len s at (Known op n) k next v e = split (ltb len (at + 2 + 2 * n))
@@ -48,7 +48,8 @@ decode-do len s at k next e = split (eqb (at % 2) 1 || ltb len (at + 2))
     (λ t. absurd (fault-do (rw t at e)))
     (λ t. split (eqb (wordAt s at % 2) 1)
     (λ u. absurd (end-do (rw (t, u) at e)))
-    (λ u. fetch-do len s at (shapeOf (wordAt s at / 256)) k next (even (eqb-false (at % 2) 1 (either-false (eqb (at % 2) 1) (ltb len (at + 2)) t .0))) (rw (t, u) at e)))
+    (λ u. fetch-do len s at (opcodeOf (wordAt s at / 256)) k next (even (eqb-false (at % 2) 1 (either-false (eqb (at % 2) 1) (ltb len (at + 2)) t .0)))
+    (rw (t, u) at e)))
   where
     even : (at % 2 ≡ 1 → ⊥) → at % 2 ≡ 0
     even f = omega arith

@@ -1,5 +1,8 @@
--- How many parameter words a command has (003, 2.10.1 to 2.10.33).
-use Prim.Native.Nat.{ℕ}
+-- How many parameter words a command has (003, 2.10.1 to 2.10.33), and the four that are a source rectangle.
+use Prim.Native.Nat.{ℕ, _+_}
+use mathlib.Core.List.{List}
+use Rattle.model.specs.declared.Block.{Block}
+use Rattle.model.specs.Commands.{blockOf, parameter}
 use Rattle.model.specs.declared.Opcode.{Opcode}
 use Rattle.model.specs.declared.Opcode.the-variants as opcode
 
@@ -28,3 +31,7 @@ wordCount opcode.Polyline = 3
 wordCount (opcode.Char t) = 3
 wordCount opcode.BitBltM = 8
 wordCount opcode.ScanLines = 3
+
+-- the source rectangle of a copy at an address: its words from parameter word i on
+abbrev pub blockAt : List ℕ → ℕ → ℕ → Block
+blockAt s at i = blockOf (parameter s at i) (parameter s at (i + 1)) (parameter s at (i + 2)) (parameter s at (i + 3))

@@ -1,32 +1,32 @@
-// POLYLINE and SCAN_LINES: the lines that an array in the store names. The array may stand in the store that is drawn on; it is read as
-// the lines are drawn, and no line touches it.
-ghost use mathlib.Core.Path.{_≡_};
-ghost use Prim.Native.Nat.{_+_, _*_, _≤_, _<_, _^_};
+// POLYLINE and SCAN_LINES: the lines that an array in the store names. The array may stand in the store that
+// is drawn on; it is read as the lines are drawn, and no line touches it.
+ghost use Prim.Native.Nat.{_+_, _*_, _≤_, _<_};
 ghost use lib.IntN.{pos};
 ghost use lib.ListN.{length};
 ghost use Rattle.model.specs.Coordinates.{coord, place, moved};
+ghost use Rattle.model.specs.Dots.{drawing};
 ghost use Rattle.model.specs.Lines.{lineDots, pairsAt, polyline, triplesAt, scanLines};
-ghost use Rattle.canvas.specs.Canvas.{canvas, paintedAll, Reach};
+ghost use Rattle.canvas.specs.Canvas.{canvas, countEnd, Drew, Reach};
 ghost use Rattle.canvas.specs.Targets.{Ready};
+ghost use Rattle.draw_lines.specs.Segments.{longestLine};
+use canvas::Drawn;
 use canvas::Target;
-use draw_lines::line;
-use draw_lines::run;
 use model::Point;
-
-// Where the position is after a drawing, and how many of its pixels are visible.
-pub struct Drawn {
-    pub position: Point,
-    pub hits: usize,
-}
 
 // One pair of POLYLINE: a LINE from the position, which goes to the line's far end.
 fn leg(screen: &mut [u8], store: &mut [u8], t: Target, from: Drawn, dx: u16, dy: u16) -> Drawn
-    requires { ⌜ Ready t (length (now screen)) (length (now store)) × (from .hits + 32769 < 2 ^ 63) ⌝ }
-    ensures { λ r. ⌜ (canvas (now (screen .exit)) (now (store .exit)) (r .hits) ≡ paintedAll t (lineDots (t .pen) (place (from .position)) (coord dx) (coord dy)) (canvas (now (screen .entry)) (now (store .entry)) (from .hits))) × (r .position ≡ moved (from .position) (coord dx) (coord dy)) ⌝ }
+    requires { ⌜ Ready t (length (now screen)) (length (now store)) × (from .hits + longestLine < countEnd) ⌝ }
+    ensures { λ d. ⌜ Drew t (drawing (lineDots (t .pen) (place (from .position)) (coord dx) (coord dy))
+        (moved (from .position) (coord dx) (coord dy)))
+        (canvas (now (screen .entry)) (now (store .entry)) (from .hits)) d (now (screen .exit)) (now (store .exit)) ⌝ }
 {
-    let hits = line(screen, store, t, from.position, dx, dy, from.hits);
+    let hits = draw_lines::segment(screen, store, t, from.position, dx, dy, from.hits);
     let position = coordinates::move_by(from.position, dx, dy);
-    Drawn { position, hits }
+    Drawn {
+        position,
+        trap: false,
+        hits,
+    }
 }
 
 // POLYLINE by the n pairs at a byte of the store: each is a LINE from where the one before ended.
@@ -38,25 +38,28 @@ pub fn polyline(
     array: usize,
     n: usize,
 ) -> Drawn
-    requires { ⌜ Ready t (length (now screen)) (length (now store)) × (n ≤ 65535) × Reach t (length (now store)) array (4 * n) ⌝ }
-    ensures { λ r. ⌜ (canvas (now (screen .exit)) (now (store .exit)) (r .hits) ≡ paintedAll t (polyline (t .pen) from (pairsAt (now (store .entry)) array n) .dots) (canvas (now (screen .entry)) (now (store .entry)) 0)) × (r .position ≡ polyline (t .pen) from (pairsAt (now (store .entry)) array n) .position) ⌝ }
+    requires { ⌜ Ready t (length (now screen)) (length (now store)) × (n ≤ 65535)
+        × Reach t (length (now store)) array (4 * n) ⌝ }
+    ensures { λ d. ⌜ Drew t (polyline (t .pen) from (pairsAt (now (store .entry)) array n))
+        (canvas (now (screen .entry)) (now (store .entry)) 0) d (now (screen .exit)) (now (store .exit)) ⌝ }
 {
     let mut d = Drawn {
         position: from,
+        trap: false,
         hits: 0,
     };
     let mut k = 0;
     while k < n {
         let at = array + 4 * k;
-        let dx = raster::word(store, at);
-        let dy = raster::word(store, at + 2);
+        let dx = words::word(store, at);
+        let dy = words::word(store, at + 2);
         d = leg(screen, store, t, d, dx, dy);
         k += 1;
     }
     d
 }
 
-// One triple of SCAN_LINES: the position moves by (dx,dy), and stays there while a horizontal LINE is drawn from it.
+// One triple of SCAN_LINES: the position moves by (dx,dy), and stays at the start of a horizontal LINE.
 fn scan(
     screen: &mut [u8],
     store: &mut [u8],
@@ -66,15 +69,21 @@ fn scan(
     dy: u16,
     len: u16,
 ) -> Drawn
-    requires { ⌜ Ready t (length (now screen)) (length (now store)) × (from .hits + 32769 < 2 ^ 63) ⌝ }
-    ensures { λ r. ⌜ (canvas (now (screen .exit)) (now (store .exit)) (r .hits) ≡ paintedAll t (lineDots (t .pen) (place (r .position)) (coord len) (pos 0)) (canvas (now (screen .entry)) (now (store .entry)) (from .hits))) × (r .position ≡ moved (from .position) (coord dx) (coord dy)) ⌝ }
+    requires { ⌜ Ready t (length (now screen)) (length (now store)) × (from .hits + longestLine < countEnd) ⌝ }
+    ensures { λ d. ⌜ Drew t (drawing (lineDots (t .pen) (place (d .position)) (coord len) (pos 0))
+        (moved (from .position) (coord dx) (coord dy)))
+        (canvas (now (screen .entry)) (now (store .entry)) (from .hits)) d (now (screen .exit)) (now (store .exit)) ⌝ }
 {
     let position = coordinates::move_by(from.position, dx, dy);
-    let hits = run(screen, store, t, position, len, from.hits);
-    Drawn { position, hits }
+    let hits = draw_lines::level_line(screen, store, t, position, len, from.hits);
+    Drawn {
+        position,
+        trap: false,
+        hits,
+    }
 }
 
-// SCAN_LINES by the n triples at a byte of the store: each moves the position, and a horizontal line is drawn from there.
+// SCAN_LINES by the n triples at a byte of the store: each moves the position, and draws a LINE from there.
 pub fn scan_lines(
     screen: &mut [u8],
     store: &mut [u8],
@@ -83,19 +92,22 @@ pub fn scan_lines(
     array: usize,
     n: usize,
 ) -> Drawn
-    requires { ⌜ Ready t (length (now screen)) (length (now store)) × (n ≤ 65535) × Reach t (length (now store)) array (6 * n) ⌝ }
-    ensures { λ r. ⌜ (canvas (now (screen .exit)) (now (store .exit)) (r .hits) ≡ paintedAll t (scanLines (t .pen) from (triplesAt (now (store .entry)) array n) .dots) (canvas (now (screen .entry)) (now (store .entry)) 0)) × (r .position ≡ scanLines (t .pen) from (triplesAt (now (store .entry)) array n) .position) ⌝ }
+    requires { ⌜ Ready t (length (now screen)) (length (now store)) × (n ≤ 65535)
+        × Reach t (length (now store)) array (6 * n) ⌝ }
+    ensures { λ d. ⌜ Drew t (scanLines (t .pen) from (triplesAt (now (store .entry)) array n))
+        (canvas (now (screen .entry)) (now (store .entry)) 0) d (now (screen .exit)) (now (store .exit)) ⌝ }
 {
     let mut d = Drawn {
         position: from,
+        trap: false,
         hits: 0,
     };
     let mut k = 0;
     while k < n {
         let at = array + 6 * k;
-        let dx = raster::word(store, at);
-        let dy = raster::word(store, at + 2);
-        let len = raster::word(store, at + 4);
+        let dx = words::word(store, at);
+        let dy = words::word(store, at + 2);
+        let len = words::word(store, at + 4);
         d = scan(screen, store, t, d, dx, dy, len);
         k += 1;
     }

@@ -1,78 +1,94 @@
--- What the loops over a patch carry: so many numbered steps are made, the buffers have their lengths, and the count is small.
+-- What the loops over a transfer carry: so many numbered steps are made, and each keeps the buffers' lengths
+-- and adds few to the count.
 use mathlib.Core.Path.{_≡_, sym, ap, _∙_}
-use mathlib.Core.Bool.{Bool}
-use mathlib.Core.List.{List, [], _∷_}
+use mathlib.Core.List.{[], _∷_}
 use Prim.Native.Nat.{ℕ, zero, suc, _+_, _*_, _≤_, _<_}
 use native.Mathlib.Nat.{mul-le-mul-right}
 use native.Mathlib.Omega.{arith}
 use lib.ListN.{length}
-use Rattle.model.specs.declared.Surface.{Surface}
 use Rattle.model.specs.Dots.{Dot}
-use Rattle.raster.specs.Place.{Drawable}
 use Rattle.canvas.specs.declared.Target.{Target}
-use Rattle.canvas.specs.Canvas.{Canvas, painted, paintedAll}
-use Rattle.canvas.proofs.CanvasLaws.{SameLengths, paintedAll-hits, hits-length}
-use Rattle.draw_copies.specs.Steps.{steps, turn}
-use Rattle.draw_copies.specs.Moves.{Readable, Movable, movedPixel, movedRow}
-use Rattle.draw_copies.specs.declared.Patch.{Patch}
-use Rattle.draw_copies.proofs.StepLaws.{steps-none, steps-next}
+use Rattle.canvas.specs.Canvas.{Canvas, painted, paintedAll, countEnd}
+use Rattle.canvas.proofs.CanvasLaws.{SameLengths, painted-lengths, paintedAll-hits, hits-length}
+use Rattle.draw_copies.specs.Steps.{steps, reversedIf}
+use Rattle.draw_copies.specs.Transfers.{Movable, movedPixel, movedRow}
+use Rattle.draw_copies.specs.declared.Transfer.{Transfer}
+use Rattle.draw_copies.proofs.StepLaws.{steps-none, steps-next, steps-keep}
 use Rattle.draw_copies.proofs.MoveLaws.{lengths-refl, lengths-on}
 
--- ## A pixel that is read
+-- ## What a step does at the most
 
-pub drawable : {u : Surface} {n x y : ℕ} → Readable u n → (l : List ℕ) → n ≡ length l → x < u .width → y < u .height → Drawable u l x y
-drawable h l e a b = record {
-  fits = record { depth = h .depth; right = h .right; long = omega (arith, h .long, e) };
-  small = h .small;
-  column = a;
-  row = b;
-}
+-- each step keeps the buffers' lengths, and adds at most w to the count
+pub record Bounded (g : ℕ → Canvas → Canvas) (w : ℕ) : Type 0 where
+  pub lengths : (k : ℕ) (c : Canvas) → SameLengths c (g k c)
+  pub few : (k : ℕ) (c : Canvas) → g k c .hits ≤ c .hits + w
 
--- ## How many more are visible
+module _ {g : ℕ → Canvas → Canvas} {w : ℕ} (b : Bounded g w) where
+  steps-lengths : (n : ℕ) (c : Canvas) → SameLengths c (steps g n c)
+  steps-lengths n c = steps-keep (SameLengths c) g n c (λ k l m s. lengths-on s (b .lengths k m)) (lengths-refl c)
+
+  steps-few : (n : ℕ) (c : Canvas) → steps g n c .hits ≤ c .hits + n * w
+  unfolding steps
+  steps-few zero c = omega arith
+  steps-few (suc n) c = omega (arith, b .few n (steps g n c), steps-few n c)
 
 painted-few : (t : Target) (d : Dot) (c : Canvas) → painted t d c .hits ≤ c .hits + 1
 unfolding paintedAll
 painted-few t d c = omega (arith, paintedAll-hits t (d ∷ []) c, hits-length t (d ∷ []))
 
-module _ (t : Target) (pane : Bool) (u : Surface) (p : Patch) where
-  pub pixel-few : (i j : ℕ) (c : Canvas) → movedPixel t pane u p i j c .hits ≤ c .hits + 1
+module _ (t : Target) (m : Transfer) where
+  -- the pixels of a row, in the order of its columns
+  abbrev pub rowSteps : ℕ → ℕ → Canvas → Canvas
+  rowSteps j k = movedPixel t m (reversedIf (m .order .left) (m .patch .wide) k) j
+
+  pub rowSteps-bounded : (j : ℕ) → Bounded (rowSteps j) 1
   unfolding movedPixel
-  pixel-few i j c = painted-few t _ c
+  rowSteps-bounded j = record { lengths = λ k c. painted-lengths t _ c; few = λ k c. painted-few t _ c }
 
-  steps-few : (g : ℕ → Canvas → Canvas) → ((k : ℕ) (c : Canvas) → g k c .hits ≤ c .hits + 1) → (n : ℕ) (c : Canvas) → steps g n c .hits ≤ c .hits + n
-  unfolding steps
-  steps-few g e zero c = omega arith
-  steps-few g e (suc n) c = omega (arith, e n (steps g n c), steps-few g e n c)
+  -- all rows, in their order
+  abbrev pub allSteps : ℕ → Canvas → Canvas
+  allSteps k = movedRow t m (reversedIf (m .order .up) (m .patch .high) k)
 
-  pub row-few : (left : Bool) (j : ℕ) (c : Canvas) → movedRow t pane u p left j c .hits ≤ c .hits + p .wide
+  pub allSteps-bounded : Bounded allSteps (m .patch .wide)
   unfolding movedRow
-  row-few left j c = steps-few _ (λ k m. pixel-few (turn left (p .wide) k) j m) (p .wide) c
+  allSteps-bounded = record {
+    lengths = λ k c. steps-lengths (rowSteps-bounded _) (m .patch .wide) c;
+    few = λ k c. omega (arith, steps-few (rowSteps-bounded (reversedIf (m .order .up) (m .patch .high) k)) (m .patch .wide) c);
+  }
 
--- ## Along the way
+-- ## The invariant
 
--- n steps are made from c on, each with at most w more visible
-pub record Along (g : ℕ → Canvas → Canvas) (w n : ℕ) (c m : Canvas) : Type 0 where
-  pub is : m ≡ steps g n c
-  pub lengths : SameLengths c m
-  pub few : m .hits ≤ c .hits + n * w
+-- k of n numbered steps are made on the canvas c₀, each with at most w more visible; c is the canvas now
+pub record Stepped (g : ℕ → Canvas → Canvas) (w : ℕ) (c₀ c : Canvas) (k n : ℕ) : Type 0 where
+  pub bounded : Bounded g w
+  pub made : c ≡ steps g k c₀
+  pub lengths : SameLengths c₀ c
+  pub turn : k ≤ n
 
-pub begun : (g : ℕ → Canvas → Canvas) (w : ℕ) (c : Canvas) → Along g w 0 c c
-begun g w c = record { is = sym (steps-none g c); lengths = lengths-refl c; few = omega arith }
+pub stepped-none : {g : ℕ → Canvas → Canvas} {w : ℕ} → Bounded g w → (c : Canvas) (n : ℕ) → Stepped g w c c 0 n
+stepped-none b c n = record { bounded = b; made = sym (steps-none _ c); lengths = lengths-refl c; turn = omega arith }
 
--- one step more
-pub further : {g : ℕ → Canvas → Canvas} {w n : ℕ} {c m : Canvas} (m′ : Canvas) → Along g w n c m → m′ ≡ g n m → SameLengths m m′ → g n m .hits ≤ m .hits + w
-    → Along g w (n + 1) c m′
-further {g} {w} {n} {c} {m} m′ a e l f = record {
-  is = e ∙ ap (g n) (a .is) ∙ sym (steps-next g n c);
-  lengths = lengths-on (a .lengths) l;
-  few = omega (arith, ap (λ (z : Canvas). z .hits) e, a .few, f);
-}
+module _ {g : ℕ → Canvas → Canvas} {w : ℕ} (c₀ : Canvas) {c : Canvas} {k n : ℕ} (s : Stepped g w c₀ c k n) where
+  pub stepped-next : {c′ : Canvas} → k < n → c′ ≡ g k c → Stepped g w c₀ c′ (k + 1) n
+  stepped-next l e = record {
+    bounded = s .bounded;
+    made = e ∙ ap (g k) (s .made) ∙ sym (steps-next g k c₀);
+    lengths = rw e (lengths-on (s .lengths) (s .bounded .lengths k c));
+    turn = omega arith;
+  }
+
+  pub stepped-all : n ≤ k → c ≡ steps g n c₀
+  stepped-all l = s .made ∙ ap (λ (i : ℕ). steps g i c₀) (let e : k ≡ n = omega (arith, s .turn) in e)
+
+  -- a transfer can go on
+  pub stepped-movable : {t : Target} {m : Transfer}
+      → Movable t m (length (c₀ .screen)) (length (c₀ .store)) → Movable t m (length (c .screen)) (length (c .store))
+  stepped-movable h = rw (s .lengths .screen, s .lengths .store) h
+
+  -- the count has room for one step more
+  pub stepped-room : k < n → c₀ .hits + n * w < countEnd → c .hits + w < countEnd
+  stepped-room l h = omega (arith, ap (λ (z : Canvas). z .hits) (s .made), steps-few (s .bounded) k c₀, mul-le-mul-right w l)
 
 -- 65,536 rows of 65,536 pixels are few
-pub rows-few : (k w : ℕ) → k ≤ 65536 → w ≤ 65536 → k * w ≤ 4294967296
+pub rows-few : (k w : ℕ) → k ≤ 65536 → w ≤ 65536 → k * w < countEnd
 rows-few k w h l = omega (arith, mul-le-mul-right w h)
-
--- a patch can be moved in buffers of the same lengths
-pub movable-on : {t : Target} {pane : Bool} {u : Surface} {p : Patch} {c m : Canvas} → SameLengths c m
-    → Movable t pane u p (length (c .screen)) (length (c .store)) → Movable t pane u p (length (m .screen)) (length (m .store))
-movable-on s h = rw (s .screen, s .store) h

@@ -1,5 +1,6 @@
--- Numbered steps: when two runs agree, what they keep, which of them are idle, and that steps which commute may be taken from the last on.
--- The law of copies in place: steps that read as they go do what they would do had all been read first.
+-- Numbered steps: when two runs agree, what they keep, which of them are idle, and that steps which commute
+-- may be taken from the last on. The law of copies in place: steps that read as they go do what they would do
+-- had all been read first.
 use mathlib.Core.Path.{_≡_, refl, sym, ap, _∙_}
 use mathlib.Core.Bool.{Bool, true, false}
 use mathlib.Core.Logic.{_≢_}
@@ -7,7 +8,7 @@ use Prim.Native.Nat.{ℕ, zero, suc, _+_, _-_, _≤_, _<_}
 use native.Mathlib.Nat.{add-zero, add-suc}
 use native.Mathlib.Numerals.{add-one}
 use native.Mathlib.Omega.{arith}
-use Rattle.draw_copies.specs.Steps.{steps, turn}
+use Rattle.draw_copies.specs.Steps.{steps, reversedIf}
 
 -- ## Runs
 
@@ -19,6 +20,13 @@ module _ {S : Type 0} where
   pub steps-next : (g : ℕ → S → S) (n : ℕ) (c : S) → steps g (n + 1) c ≡ g n (steps g n c)
   unfolding steps
   steps-next g n c = rw (add-one n)
+
+  -- what goes on as the steps do is their run
+  pub steps-are : (f : ℕ → S → S) (g : ℕ → S → S) → ((c : S) → f 0 c ≡ c) → ((k : ℕ) (c : S) → f (k + 1) c ≡ g k (f k c))
+      → (n : ℕ) (c : S) → f n c ≡ steps g n c
+  unfolding steps
+  steps-are f g none next zero c = none c
+  steps-are f g none next (suc n) c = rw (← add-one n) (next n c) ∙ ap (g n) (steps-are f g none next n c)
 
   -- the first m, and n more
   pub steps-add : (g : ℕ → S → S) (m n : ℕ) (c : S) → steps g (m + n) c ≡ steps (λ k. g (m + k)) n (steps g m c)
@@ -92,52 +100,63 @@ module _ {S : Type 0} (I : S → Type 0) where
   unfolding steps
   steps-reverse h zero c s e i = refl
   steps-reverse h (suc n) c s e i =
+      let last : suc n - 1 - 0 ≡ n = omega arith in
+      let begun = h (suc n - 1 - 0) c in
       steps-first (λ k. h (suc n - 1 - k)) n c
-      ∙ steps-agree (λ k. h (suc n - 1 - suc k)) (λ k. h (n - 1 - k)) n (h (suc n - 1 - 0) c)
-      (λ k l. ap (λ (j : ℕ). h j (steps (λ k. h (n - 1 - k)) k (h (suc n - 1 - 0) c))) (let q : suc n - 1 - suc k ≡ n - 1 - k = omega arith in q))
-      ∙ steps-reverse h n (h (suc n - 1 - 0) c) (λ k l. s k (omega arith)) (λ i k l m d. e i k (omega arith) (omega arith) d) (s (suc n - 1 - 0) (omega arith) c i)
-      ∙ ap (λ (j : ℕ). steps h n (h j c)) (let q : suc n - 1 - 0 ≡ n = omega arith in q)
+      ∙ steps-agree (λ k. h (suc n - 1 - suc k)) (λ k. h (n - 1 - k)) n begun
+      (λ k l. ap (λ (j : ℕ). h j (steps (λ k. h (n - 1 - k)) k begun)) (let q : suc n - 1 - suc k ≡ n - 1 - k = omega arith in q))
+      ∙ steps-reverse h n begun (λ k l. s k (omega arith)) (λ i k l m d. e i k (omega arith) (omega arith) d) (s (suc n - 1 - 0) (omega arith) c i)
+      ∙ ap (λ (j : ℕ). steps h n (h j c)) last
       ∙ steps-after (h n) h n c (λ k l. s k (omega arith)) (λ k l. e k n (omega arith) (omega arith) (λ q. let z : ⊥ = omega arith in z)) i
 
   -- in either order
-  steps-turn : (back : Bool) (h : ℕ → S → S) (n : ℕ) (c : S) → Stays h n → Commute h n → I c → steps (λ k. h (turn back n k)) n c ≡ steps h n c
-  steps-turn false h n c s e i = refl
-  steps-turn true h n c s e i = steps-reverse h n c s e i
+  steps-reversedIf : (back : Bool) (h : ℕ → S → S) (n : ℕ) (c : S) → Stays h n → Commute h n → I c
+      → steps (λ k. h (reversedIf back n k)) n c ≡ steps h n c
+  steps-reversedIf false h n c s e i = refl
+  steps-reversedIf true h n c s e i = steps-reverse h n c s e i
 
--- ## Turned numbers
+-- ## Reversed numbers
 
-pub turn-lt : (back : Bool) (n k : ℕ) → k < n → turn back n k < n
-turn-lt false n k h = h
-turn-lt true n k h = omega arith
+pub reversedIf-lt : (back : Bool) (n k : ℕ) → k < n → reversedIf back n k < n
+reversedIf-lt false n k h = h
+reversedIf-lt true n k h = omega arith
 
 -- i comes before k
 abbrev pub Before : Bool → ℕ → ℕ → Type 0
 Before false i k = i < k
 Before true i k = k < i
 
-turn-before : (back : Bool) (n i k : ℕ) → i < k → k < n → Before back (turn back n i) (turn back n k)
-turn-before false n i k h l = h
-turn-before true n i k h l = omega arith
+reversedIf-before : (back : Bool) (n i k : ℕ) → i < k → k < n → Before back (reversedIf back n i) (reversedIf back n k)
+reversedIf-before false n i k h l = h
+reversedIf-before true n i k h l = omega arith
 
 -- ## In place
 
--- Step g k reads as it goes and h k does not. Where what g k reads still stands (R k), both do the same; no step destroys what a later one reads;
--- and the order of the steps h is free.
+-- Step g k reads as it goes and h k does not. Where what g k reads still stands (R k), both do the same; no
+-- step destroys what a later one reads; and the order of the steps h is free.
 module _ {S : Type 0} (I : S → Type 0) (g h : ℕ → S → S) (R : ℕ → S → Type 0) (back : Bool) (n : ℕ)
     (stays : Stays I h n)
     (same : (k : ℕ) → k < n → (m : S) → I m → R k m → g k m ≡ h k m)
     (kept : (i k : ℕ) → i < n → k < n → Before back i k → (m : S) → I m → R k m → R k (h i m))
     (swap : Commute I h n) where
-  stands : (c : S) → I c → (k i : ℕ) → k < n → i ≤ k → R (turn back n k) c → I (steps (λ j. h (turn back n j)) i c) × R (turn back n k) (steps (λ j. h (turn back n j)) i c)
-  stands c p k i l b r =
-      steps-keep (λ (m : S). I m × R (turn back n k) m) (λ j. h (turn back n j)) i c
-      (λ j a m q. (
-        stays (turn back n j) (turn-lt back n j (omega arith)) m (q .0),
-        kept (turn back n j) (turn back n k) (turn-lt back n j (omega arith)) (turn-lt back n k l) (turn-before back n j k (omega arith) l) m (q .0) (q .1),
-      )) (p, r)
+  -- the number of the step that is taken k-th
+  abbrev nth : ℕ → ℕ
+  nth k = reversedIf back n k
 
-  pub in-place : (c : S) → I c → ((k : ℕ) → k < n → R k c) → steps (λ k. g (turn back n k)) n c ≡ steps h n c
+  stands : (c : S) → I c → (k i : ℕ) → k < n → i ≤ k → R (nth k) c → I (steps (λ j. h (nth j)) i c) × R (nth k) (steps (λ j. h (nth j)) i c)
+  stands c p k i l b r =
+      steps-keep (λ (m : S). I m × R (nth k) m) (λ j. h (nth j)) i c
+      (λ j a m q.
+      let below = reversedIf-lt back n j (omega arith) in
+      let earlier = reversedIf-before back n j k (omega arith) l in
+      (stays (nth j) below m (q .0), kept (nth j) (nth k) below (reversedIf-lt back n k l) earlier m (q .0) (q .1)))
+      (p, r)
+
+  pub in-place : (c : S) → I c → ((k : ℕ) → k < n → R k c) → steps (λ k. g (nth k)) n c ≡ steps h n c
   in-place c p r =
-      steps-agree (λ k. g (turn back n k)) (λ k. h (turn back n k)) n c
-      (λ k l. let a = stands c p k k l (omega arith) (r (turn back n k) (turn-lt back n k l)) in same (turn back n k) (turn-lt back n k l) _ (a .0) (a .1))
-      ∙ steps-turn I back h n c stays swap p
+      steps-agree (λ k. g (nth k)) (λ k. h (nth k)) n c
+      (λ k l.
+      let below = reversedIf-lt back n k l in
+      let a = stands c p k k l (omega arith) (r (nth k) below) in
+      same (nth k) below _ (a .0) (a .1))
+      ∙ steps-reversedIf I back h n c stays swap p

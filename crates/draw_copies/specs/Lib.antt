@@ -1,3 +1,3 @@
 -- What the contracts of `draw_copies` cite beside model's definitions.
 pub mod Steps
-pub mod Moves
+pub mod Transfers

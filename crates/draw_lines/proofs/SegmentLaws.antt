@@ -1,8 +1,7 @@
--- The pixels of a line by its magnitudes and heading are those of the paper's LINE, and the running remainder gives the minor offset.
-use mathlib.Core.Path.{_≡_, sym, _∙_}
-use mathlib.Core.Bool.{Bool, true, false, cond}
-use mathlib.Core.List.{List}
-use Prim.Native.Nat.{ℕ, zero, suc, _+_, _*_, _≤_, _<_, min, max}
+-- The pixels of a line by its course and its axes are those of the paper's LINE, and the running remainder gives the minor offset.
+use mathlib.Core.Path.{_≡_, sym, ap₂, _∙_}
+use mathlib.Core.Bool.{true, false, cond}
+use Prim.Native.Nat.{ℕ, zero, suc, _+_, _*_, _≤_, _<_, max}
 use native.Mathlib.Nat.{div-zero}
 use native.Mathlib.Numerals.{add-one}
 use native.Mathlib.Omega.{arith}
@@ -10,96 +9,83 @@ use borrow.Author.Tests.{le-leb, lt-leb}
 use lib.Arith.{digits-div}
 use lib.IntN.{ℤ, pos, natAbs, +ℤ-idr}
 use Rattle.model.specs.Ranges.{listed}
-use Rattle.model.specs.Coordinates.{coord, at, offset, place, negative}
+use Rattle.model.specs.Coordinates.{coord, at, place}
 use Rattle.model.specs.declared.Point.{Point}
 use Rattle.model.specs.declared.Pen.{Pen}
 use Rattle.model.specs.declared.Source.{Source}
 use Rattle.model.specs.Pixels.{patternSource}
-use Rattle.model.specs.Dots.{Dot, dot}
-use Rattle.model.specs.Lines.{minorAt, major, minor, flat, lineDots, pointAt}
-use Rattle.coordinates.specs.Offsets.{turned}
-use Rattle.coordinates.proofs.SignedLaws.{signAs-turned}
-use Rattle.canvas.specs.declared.Heading.{Heading}
+use Rattle.model.specs.Dots.{dot}
+use Rattle.model.specs.Lines.{minorAt, major, lineDots, pointAt}
+use Rattle.coordinates.proofs.SignedLaws.{signAs-directed}
+use Rattle.canvas.specs.declared.Course.{Course}
+use Rattle.canvas.specs.declared.Offset.{Offset}
 use Rattle.canvas.specs.declared.Target.{Target}
-use Rattle.canvas.specs.Canvas.{Canvas, canvas, painted, paintedAll}
-use Rattle.draw_lines.specs.Segments.{traceDot}
+use Rattle.canvas.specs.Canvas.{Canvas, painted, paintedAll, Painted}
+use Rattle.canvas.specs.Targets.{placeOn}
+use Rattle.draw_lines.specs.Segments.{longestLine, AxesOf, levelAxes, traceAt, traceDot}
+use Rattle.canvas.specs.Targets.{courseOf}
+use Rattle.draw_lines.specs.declared.segments.Axes.{Axes}
 use Rattle.draw_lines.specs.declared.slopes.Slope.{Slope}
 
 -- ## The minor offset
 
 -- j spans and a rest below the span make 2 i m + n: then j is pixel i's minor offset
-pub minorAt-rest : (n m i j e : ℕ) → m ≤ n → e < max 1 (2 * n) → j * max 1 (2 * n) + e ≡ 2 * i * m + n → j ≡ minorAt n m i
+minorAt-rest : (n m i j e : ℕ) → m ≤ n → e < max 1 (2 * n) → j * max 1 (2 * n) + e ≡ 2 * i * m + n → j ≡ minorAt n m i
 minorAt-rest zero zero i j e h g s = let z : j ≡ 0 = omega arith in z ∙ sym (div-zero (2 * i * 0 + 0))
 minorAt-rest zero (suc m) i j e h g s = absurd (let n : ⊥ = omega arith in n)
 minorAt-rest (suc n) m i j e h g s =
     let w : max 1 (2 * suc n) ≡ 2 * suc n = omega arith in
     rw (← (rw w at s)) (sym (digits-div j (rw w at g)))
 
--- what holds at the head of LINE's loop: the first i pixels are drawn, and the slope's spans and rest make 2 i m + n
-pub record Tracing (t : Target) (f : ℕ → Dot) (n m span hits₀ : ℕ) (screen₀ store₀ screen store : List ℕ) (slope : Slope) (hits i : ℕ) : Type 0 where
-  pub drawn : canvas screen store hits ≡ paintedAll t (listed 0 i f) (canvas screen₀ store₀ hits₀)
-  pub turn : i ≤ n + 1
+-- the slope after i climbs: its spans and rest make 2 i m + n
+pub record Climbed (axes : Axes) (span : ℕ) (slope : Slope) (i : ℕ) : Type 0 where
   pub low : slope .at ≤ i
   pub rest : slope .rest < span
-  pub sum : slope .at * span + slope .rest ≡ 2 * i * m + n
+  pub sum : slope .at * span + slope .rest ≡ 2 * i * axes .smaller + axes .larger
+
+-- .. so that its offset is pixel i's
+pub traceAt-climbed : (axes : Axes) {span : ℕ} (slope : Slope) (i : ℕ) {x y : ℕ} → axes .smaller ≤ axes .larger → span ≡ max 1 (2 * axes .larger)
+    → Climbed axes span slope i → x ≡ cond (axes .level) i (slope .at) → y ≡ cond (axes .level) (slope .at) i
+    → _≡_ {A = Offset} (record { x = x; y = y }) (traceAt axes i)
+traceAt-climbed axes slope i h e s p q =
+    let j = minorAt-rest (axes .larger) (axes .smaller) i (slope .at) (slope .rest) h (rw e at (s .rest)) (rw e at (s .sum)) in
+    rw (p, q, j)
 
 -- ## LINE
 
--- the heading, the major axis and the magnitudes of an offset
-pub record Axes (dx dy : ℤ) (h : Heading) (level : Bool) (n m : ℕ) : Type 0 where
-  pub left : h .left ≡ negative dx
-  pub up : h .up ≡ negative dy
-  pub axis : level ≡ flat dx dy
-  pub long : n ≡ major dx dy
-  pub short : m ≡ minor dx dy
-
 -- the two magnitudes, in either order
-module _ (dx dy : ℤ) (h : Heading) (a b : ℕ) (p : a ≡ natAbs dx) (q : b ≡ natAbs dy) (l : h .left ≡ negative dx) (u : h .up ≡ negative dy) where
-  pub axes-flat : b ≤ a → Axes dx dy h true a b
-  axes-flat k =
+module _ (dx dy : ℤ) {a b : ℕ} (p : a ≡ natAbs dx) (q : b ≡ natAbs dy) where
+  pub axes-level : b ≤ a → a < longestLine → AxesOf dx dy (record { level = true; larger = a; smaller = b })
+  axes-level k l =
       let g : natAbs dy ≤ natAbs dx = omega arith in
-      record { left = l; up = u; axis = sym (le-leb (natAbs dy) (natAbs dx) g); long = omega arith; short = omega arith }
+      record { level = sym (le-leb (natAbs dy) (natAbs dx) g); larger = omega arith; smaller = omega arith; small = l }
 
-  pub axes-steep : a < b → Axes dx dy h false b a
-  axes-steep k =
+  pub axes-steep : a < b → b < longestLine → AxesOf dx dy (record { level = false; larger = b; smaller = a })
+  axes-steep k l =
       let g : natAbs dx < natAbs dy = omega arith in
-      record { left = l; up = u; axis = sym (lt-leb (natAbs dy) (natAbs dx) g); long = omega arith; short = omega arith }
+      record { level = sym (lt-leb (natAbs dy) (natAbs dx) g); larger = omega arith; smaller = omega arith; small = l }
 
-pub lineDots-trace : (pen : Pen) (from : Point) (dx dy : ℤ) (h : Heading) (level : Bool) (n m : ℕ) → Axes dx dy h level n m
-    → lineDots pen (place from) dx dy ≡ listed 0 (n + 1) (traceDot pen from h level n m)
+pub lineDots-trace : (pen : Pen) (from : Point) (dx dy : ℤ) {course : Course} {axes : Axes} → course ≡ courseOf from dx dy → AxesOf dx dy axes
+    → lineDots pen (place from) dx dy ≡ listed 0 (axes .larger + 1) (traceDot pen course axes)
 unfolding lineDots traceDot
-lineDots-trace pen from dx dy h level n m a =
-    simp (a .left, a .up, a .axis, a .long, a .short, add-one (major dx dy), signAs-turned, traceDot)
+lineDots-trace pen from dx dy c a = simp (c, a .level, a .larger, a .smaller, add-one (major dx dy), signAs-directed, traceDot)
 
-pub traceDot-drawn : (pen : Pen) (from : Point) (h : Heading) (level : Bool) (n m i j : ℕ) {kx ky : ℕ} {source : Source} → j ≡ minorAt n m i
-    → kx ≡ cond level i j → ky ≡ cond level j i → source ≡ patternSource pen i
-    → dot (offset (place from) (turned (h .left) kx) (turned (h .up) ky)) source ≡ traceDot pen from h level n m i
+-- a dot drawn where pixel i lies
+pub traceDot-drawn : (pen : Pen) (course : Course) (axes : Axes) (i : ℕ) {o : Offset} {source : Source} → o ≡ traceAt axes i → source ≡ patternSource pen i
+    → dot (placeOn course o) source ≡ traceDot pen course axes i
 unfolding traceDot
-traceDot-drawn pen from h level n m i j e x y s = rw (x, y, s, e)
+traceDot-drawn pen course axes i e s = ap₂ (λ (o : Offset) (q : Source). dot (placeOn course o) q) e s
 
 -- ## A horizontal line
 
--- pixel i of a run of n + 1 pixels, to the left or not
-abbrev pub runDot : Pen → Point → Bool → ℕ → Dot
-runDot pen from left i = dot (offset (place from) (turned left i) (turned false 0)) (patternSource pen i)
-
-minorAt-none : (n i : ℕ) → minorAt n 0 i ≡ 0
-minorAt-none n i = sym (minorAt-rest n 0 i 0 n (omega arith) (omega arith) (omega arith))
-
-max-zero : (n : ℕ) → max n 0 ≡ n
-max-zero n = omega arith
-
-min-zero : (n : ℕ) → min n 0 ≡ 0
-min-zero n = omega arith
-
-pub lineDots-level : (pen : Pen) (from : Point) (d : ℤ) (left : Bool) (n : ℕ) → left ≡ negative d → n ≡ natAbs d
-    → lineDots pen (place from) d (pos 0) ≡ listed 0 (n + 1) (runDot pen from left)
-unfolding lineDots
-lineDots-level pen from d left n e f = simp (e, f, add-one (natAbs d), signAs-turned d, max-zero (natAbs d), min-zero (natAbs d), le-leb 0 (natAbs d) (omega arith), minorAt-none (natAbs d))
+pub traceAt-level : (n i : ℕ) → _≡_ {A = Offset} (record { x = i; y = 0 }) (traceAt (levelAxes n) i)
+traceAt-level n i = rw (← minorAt-rest n 0 i 0 n (omega arith) (omega arith) (omega arith))
 
 -- ## POINT
 
-pub pointAt-drawn : (t : Target) (from : Point) (c₀ : Canvas) {source : Source} {c : Canvas} → source ≡ patternSource (t .pen) 0
-    → c ≡ painted t (dot (offset (place from) (turned false 0) (turned false 0)) source) c₀ → c ≡ paintedAll t (pointAt (t .pen) from .dots) c₀
+pub pointAt-drawn : (t : Target) (c₀ : Canvas) {p to : Point} {course : Course} {source : Source} {c : Canvas}
+    → p ≡ to → course ≡ courseOf p (pos 0) (pos 0) → source ≡ patternSource (t .pen) 0
+    → c ≡ painted t (dot (placeOn course (record { x = 0; y = 0 })) source) c₀ → Painted t (pointAt (t .pen) to .dots) c₀ c
 unfolding pointAt paintedAll
-pointAt-drawn t from c₀ s e = e ∙ (λ i. painted t (dot (at (+ℤ-idr (coord (from .x)) i) (+ℤ-idr (coord (from .y)) i)) (s i)) c₀)
+pointAt-drawn t c₀ {to = to} q o s e =
+    e ∙ rw (o, q) (λ i. painted t (dot (at (+ℤ-idr (coord (to .x)) i) (+ℤ-idr (coord (to .y)) i)) (s i)) c₀)

@@ -1,7 +1,9 @@
-// POINT, LINE and a horizontal run: each as the dots that the paper names, drawn in order.
+// POINT, LINE, and the lines of an array: each as the dots that the paper names, drawn in order.
 pub mod slopes; // slopes.rt: the minor offset of a line's pixels, kept by its remainder
-pub mod segments; // segments.rt: POINT, LINE, and a horizontal run
+pub mod segments; // segments.rt: one line, sloped or level, with the count carried on
+pub mod commands; // commands.rt: POINT and LINE
 
-pub use segments::line;
-pub use segments::point;
-pub use segments::run;
+pub use commands::line;
+pub use commands::point;
+pub use segments::level_line;
+pub use segments::segment;

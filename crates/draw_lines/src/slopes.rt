@@ -1,5 +1,5 @@
-// The minor offset of a line's pixels, floor((2 × i × m + n) / (2 × n)), kept with the rest of its division from pixel to pixel: no
-// pixel divides.
+// The minor offset of a line's pixels, floor((2 × i × m + n) / (2 × n)), kept with the rest of its division
+// from pixel to pixel: no pixel divides.
 ghost use mathlib.Core.Path.{_≡_};
 ghost use Prim.Native.Nat.{_+_, _*_, _≤_, _<_, max};
 
@@ -20,7 +20,8 @@ pub fn span_of(n: usize) -> usize
 // One pixel on: the rise is added to the rest, and a whole span carries into the offset.
 pub fn climb(s: Slope, rise: usize, span: usize) -> Slope
     requires { ⌜ (s .rest < span) × (rise ≤ span) × (span ≤ 65536) × (s .at < 65536) ⌝ }
-    ensures { λ r. ⌜ (r .at * span + r .rest ≡ s .at * span + s .rest + rise) × (r .rest < span) × (r .at ≤ s .at + 1) ⌝ }
+    ensures { λ r. ⌜ (r .at * span + r .rest ≡ s .at * span + s .rest + rise) × (r .rest < span)
+        × (r .at ≤ s .at + 1) ⌝ }
 {
     let sum = s.rest + rise;
     if sum < span {

@@ -4,23 +4,18 @@ ghost use Prim.Native.Nat.{_+_, _≤_, _<_};
 ghost use lib.ListN.{length};
 ghost use Rattle.model.specs.Coordinates.{coord};
 ghost use Rattle.model.specs.Lines.{rectangle};
-ghost use Rattle.canvas.specs.Canvas.{canvas, paintedAll};
+ghost use Rattle.canvas.specs.Canvas.{canvas, Drew};
 ghost use Rattle.canvas.specs.Targets.{Ready};
-ghost use Rattle.draw_outlines.specs.Outlines.{around, outlineAt};
-use canvas::Heading;
+ghost use Rattle.draw_outlines.specs.Outlines.{outlineLength, outlineAt};
+use canvas::Drawn;
+use canvas::Offset;
 use canvas::Target;
 use model::Point;
-
-// How far a pixel lies from the start, along each axis.
-pub struct Offset {
-    pub x: usize,
-    pub y: usize,
-}
 
 // How many pixels the outline has, by its sides a = |dx| and b = |dy|.
 fn outline_length(a: usize, b: usize) -> usize
     requires { ⌜ (a ≤ 32768) × (b ≤ 32768) ⌝ }
-    ensures { λ r. ⌜ (r ≡ around a b) × (r ≤ a + b + a + b + 1) ⌝ }
+    ensures { λ r. ⌜ (r ≡ outlineLength a b) × (r ≤ a + b + a + b + 1) ⌝ }
 {
     if a == 0 {
         return a + b + 1;
@@ -54,24 +49,27 @@ fn outline_offset(a: usize, b: usize, i: usize) -> Offset
     }
 }
 
-// RECT by (dx,dy) from a position: how many of its pixels are visible.
-pub fn rect(screen: &mut [u8], store: &mut [u8], t: Target, from: Point, dx: u16, dy: u16) -> usize
+// RECT by (dx,dy): the position stays.
+pub fn rect(screen: &mut [u8], store: &mut [u8], t: Target, from: Point, dx: u16, dy: u16) -> Drawn
     requires { ⌜ Ready t (length (now screen)) (length (now store)) ⌝ }
-    ensures { λ r. ⌜ canvas (now (screen .exit)) (now (store .exit)) r ≡ paintedAll t (rectangle (t .pen) from (coord dx) (coord dy) .dots) (canvas (now (screen .entry)) (now (store .entry)) 0) ⌝ }
+    ensures { λ d. ⌜ Drew t (rectangle (t .pen) from (coord dx) (coord dy))
+        (canvas (now (screen .entry)) (now (store .entry)) 0) d (now (screen .exit)) (now (store .exit)) ⌝ }
 {
     let a = coordinates::magnitude(dx);
     let b = coordinates::magnitude(dy);
-    let left = coordinates::is_negative(dx);
-    let up = coordinates::is_negative(dy);
-    let h = Heading { left, up };
+    let course = canvas::course_of(from, dx, dy);
     let n = outline_length(a, b);
-    let mut seen = 0;
+    let mut hits = 0;
     let mut i = 0;
     while i < n {
         let o = outline_offset(a, b, i);
         let source = canvas::pattern_source(t.pen, i);
-        seen = canvas::draw_dot(screen, store, t, from, h, o.x, o.y, source, seen);
+        hits = canvas::draw_dot(screen, store, t, course, o, source, hits);
         i += 1;
     }
-    seen
+    Drawn {
+        position: from,
+        trap: false,
+        hits,
+    }
 }

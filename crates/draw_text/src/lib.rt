@@ -3,5 +3,5 @@ pub mod path; // path.rt: where the position goes after a character
 pub mod cells; // cells.rt: the cells of a character as dots, at its rotation
 pub mod text; // text.rt: a string, character by character
 
-pub use text::Written;
-pub use text::write;
+pub use text::Characters;
+pub use text::draw_string;

@@ -6,7 +6,8 @@ ghost use Rattle.draw_text.specs.Orientation.{Oriented};
 ghost use Rattle.model.specs.Coordinates.{coord, wrap};
 ghost use Rattle.model.specs.Glyphs.{advance, onPath, passed};
 
-// The pattern by which the position moves: spacing plus the width, or the height where path and rotation differ by 90 or 270.
+// The pattern by which the position moves: spacing plus the width, or the height where path and rotation
+// differ by 90 or 270.
 fn advance_of(text: Text, head: u16) -> u16
     requires { ⌜ Oriented text ⌝ }
     ensures { λ r. ⌜ r ≡ wrap (advance text head) ⌝ }
@@ -39,7 +40,7 @@ pub fn pass(text: Text, head: u16, p: Point) -> Point
     requires { ⌜ Oriented text ⌝ }
     ensures { λ r. ⌜ r ≡ passed text head p ⌝ }
 {
-    if canvas::bit_of(head, 14) {
+    if words::bit_of(head, 14) {
         return p;
     }
     let d = advance_of(text, head);

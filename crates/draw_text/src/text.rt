@@ -1,57 +1,51 @@
 // A string, character by character: each drawn at the position, which then moves along the path.
 use crate::cells::glyph;
+use crate::cells::style_of;
 use crate::path::pass;
+use canvas::Drawn;
 use canvas::Target;
 use fault_text::descriptor_of;
 use model::Point;
 use model::Text;
-ghost use mathlib.Core.Path.{_≡_};
-ghost use mathlib.Core.Bool.{false};
 ghost use lib.ListN.{length};
 ghost use Rattle.model.specs.Ranges.{listed};
 ghost use Rattle.model.specs.Words.{wordAt};
-ghost use Rattle.model.specs.Glyphs as glyphs;
-ghost use Rattle.canvas.specs.Canvas.{canvas};
+ghost use Rattle.model.specs.Glyphs.{descriptor, string, trapping};
+ghost use Rattle.canvas.specs.Canvas.{canvas, Drew};
 ghost use Rattle.draw_text.specs.Cells.{GlyphReady};
 ghost use Rattle.draw_text.specs.Orientation.{Oriented};
-ghost use Rattle.draw_text.specs.Writing.{Writable, outcome, carriedOut, character};
+ghost use Rattle.draw_text.specs.Writing.{Writable, characterDrawing};
 
-// How far a string has come: the position, whether a character set the trap flag, and how many cells were visible.
-pub struct Written {
-    pub position: Point,
-    pub trap: bool,
-    pub hits: usize,
+// The characters that CHAR names: where their string stands, how many there are, and whether bits of 0 are
+// left out.
+pub struct Characters {
+    pub string: u32,
+    pub count: u16,
+    pub transparent: bool,
 }
 
-// The character whose descriptor stands at an address.
-fn letter(
+// The character whose descriptor stands at an address, drawn after those that d tells of.
+fn character(
     screen: &mut [u8],
     store: &mut [u8],
     t: Target,
     text: Text,
     transparent: bool,
-    w: Written,
+    d: Drawn,
     at: usize,
-) -> Written
-    requires { ⌜ GlyphReady t (length (now screen)) (now store) at (wordAt (now store) at) (w .hits) × Oriented text ⌝ }
-    ensures { λ r. ⌜ outcome (now (screen .exit)) (now (store .exit)) r ≡ carriedOut t (canvas (now (screen .entry)) (now (store .entry)) (w .hits)) (w .trap) (character (t .pen) transparent text (now (store .entry)) (w .position) at) ⌝ }
+) -> Drawn
+    requires { ⌜ GlyphReady t (length (now screen)) (now store) at (wordAt (now store) at) (d .hits) × Oriented text ⌝ }
+    ensures { λ r. ⌜ Drew t
+        (trapping (d .trap) (characterDrawing (t .pen) transparent text (now (store .entry)) (d .position) at))
+        (canvas (now (screen .entry)) (now (store .entry)) (d .hits)) r (now (screen .exit)) (now (store .exit)) ⌝ }
 {
-    let head = raster::word(store, at);
-    let from = w.position;
-    let hits = glyph(
-        screen,
-        store,
-        t,
-        transparent,
-        text.rotation,
-        from,
-        at,
-        head,
-        w.hits,
-    );
+    let head = words::word(store, at);
+    let from = d.position;
+    let style = style_of(text.rotation, from, transparent);
+    let hits = glyph(screen, store, t, style, at, head, d.hits);
     let position = pass(text, head, from);
-    let trap = w.trap | canvas::bit_of(head, 15);
-    Written {
+    let trap = d.trap | words::bit_of(head, 15);
+    Drawn {
         position,
         trap,
         hits,
@@ -59,31 +53,31 @@ fn letter(
 }
 
 // The characters of a string that the check has passed, from a position on.
-pub fn write(
+pub fn draw_string(
     screen: &mut [u8],
     store: &mut [u8],
     t: Target,
     text: Text,
-    transparent: bool,
     from: Point,
-    string: u32,
-    count: u16,
-) -> Written
-    requires { ⌜ Writable t (length (now screen)) (now store) text string count ⌝ }
-    ensures { λ r. ⌜ outcome (now (screen .exit)) (now (store .exit)) r ≡ carriedOut t (canvas (now (screen .entry)) (now (store .entry)) 0) false (glyphs.string (t .pen) transparent text (now (store .entry)) from (listed 0 count (glyphs.descriptor (text .font) (now (store .entry)) string))) ⌝ }
+    c: Characters,
+) -> Drawn
+    requires { ⌜ Writable t (length (now screen)) (now store) text (c .string) (c .count) ⌝ }
+    ensures { λ d. ⌜ Drew t (string (t .pen) (c .transparent) text (now (store .entry)) from
+        (listed 0 (c .count) (descriptor (text .font) (now (store .entry)) (c .string))))
+        (canvas (now (screen .entry)) (now (store .entry)) 0) d (now (screen .exit)) (now (store .exit)) ⌝ }
 {
     let font = text.font;
-    let n = count as usize;
-    let mut w = Written {
+    let n = c.count as usize;
+    let mut d = Drawn {
         position: from,
         trap: false,
         hits: 0,
     };
     let mut k = 0;
     while k < n {
-        let at = descriptor_of(store, font, string, k);
-        w = letter(screen, store, t, text, transparent, w, at);
+        let at = descriptor_of(store, font, c.string, k);
+        d = character(screen, store, t, text, c.transparent, d, at);
         k += 1;
     }
-    w
+    d
 }

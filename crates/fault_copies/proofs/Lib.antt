@@ -1,2 +1,4 @@
--- Laws of a copy's checks.
-pub mod RowLaws
+-- What the checks of a copy say where they find no fault.
+pub mod BlockLaws
+pub mod SharingLaws
+pub mod ReadableLaws

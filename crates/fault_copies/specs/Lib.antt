@@ -1,1 +1,2 @@
--- The contracts of `copychecks` cite model's definitions.
+-- What a copy may rely on where its checks find no fault. The checks' own contracts cite model's definitions.
+pub mod Sharing

@@ -1,14 +1,14 @@
-// The checks of BIT_BLT and BIT_BLT_M: a rectangle in its bitmap, and bytes in common with the active bitmap.
+// The checks of BIT_BLT and BIT_BLT_M: a block in its bitmap, and bytes in common with the active bitmap.
 ghost use mathlib.Core.Path.{_≡_};
 ghost use mathlib.Core.Bool.{false};
 ghost use Prim.Native.Nat.{_+_, _*_, _^_, _<_, _≤_};
 ghost use Rattle.model.specs.Bitmaps.{wordOf, touches};
 ghost use Rattle.model.specs.Coordinates.{coord, index};
-ghost use Rattle.model.specs.Copies.{blockBad, blockTouches, sharing};
-ghost use Rattle.model.specs.Faults.{block};
-ghost use Rattle.draw_copies.specs.Moves.{rectangle, Within, Readable};
+ghost use Rattle.model.specs.Copies.{rectangleOf, blockBad, blockTouches, sharing};
+ghost use Rattle.bitmaps.specs.Areas.{Readable};
 use coordinates::is_negative;
 use model::Bitmap;
+use model::Block;
 use model::Surface;
 
 // The number that a pattern stands for, or 0 for a negative one.
@@ -21,15 +21,15 @@ fn index_of(d: u16) -> usize
     0
 }
 
-// Whether a copy's dx or dy is negative, or its source outside its bitmap.
-pub fn block_bad(s: Surface, x: u16, y: u16, dx: u16, dy: u16) -> bool
-    ensures { λ r. ⌜ r ≡ blockBad s (block x y dx dy) ⌝ }
+// Whether a copy's dx or dy is negative, or its source outside its bitmap, whose surface is s.
+pub fn block_bad(s: Surface, b: Block) -> bool
+    ensures { λ r. ⌜ r ≡ blockBad s (rectangleOf b) ⌝ }
 {
-    let right = index_of(x) + index_of(dx);
-    let bottom = index_of(y) + index_of(dy);
-    is_negative(dx)
-        | (is_negative(dy)
-            | (is_negative(x) | (is_negative(y) | ((s.width <= right) | (s.height <= bottom)))))
+    let right = index_of(b.x) + index_of(b.dx);
+    let bottom = index_of(b.y) + index_of(b.dy);
+    is_negative(b.dx)
+        | (is_negative(b.dy)
+            | (is_negative(b.x) | (is_negative(b.y) | ((s.width <= right) | (s.height <= bottom)))))
 }
 
 // The word of a row in which a column lies.
@@ -48,13 +48,16 @@ fn row_touches(active: Bitmap, s: Surface, row: usize, first: usize, size: usize
     bitmaps::touches(active, s.base + 2 * (row * s.words + first), size)
 }
 
-// Whether some row of a rectangle of the store touches the active bitmap: the words that hold its pixels.
-fn rows_touch(active: Bitmap, s: Surface, x: usize, y: usize, dx: usize, dy: usize) -> bool
-    requires { ⌜ Readable s (2 ^ 32) × Within s x y dx dy ⌝ }
-    ensures { λ r. ⌜ r ≡ blockTouches active s (rectangle x y dx dy) ⌝ }
+// Whether some row of a block of the store touches the active bitmap: the words that hold its pixels.
+fn rows_touch(active: Bitmap, s: Surface, b: Block) -> bool
+    requires { ⌜ Readable s (2 ^ 32) × (blockBad s (rectangleOf b) ≡ false) ⌝ }
+    ensures { λ r. ⌜ r ≡ blockTouches active s (rectangleOf b) ⌝ }
 {
+    let x = b.x as usize;
+    let y = b.y as usize;
+    let dy = b.dy as usize;
     let first = word_of(s.bits, x);
-    let last = word_of(s.bits, x + dx);
+    let last = word_of(s.bits, x + b.dx as usize);
     let size = 2 * (last + 1 - first);
     let mut found = false;
     let mut j = 0;
@@ -65,11 +68,11 @@ fn rows_touch(active: Bitmap, s: Surface, x: usize, y: usize, dx: usize, dy: usi
     found
 }
 
-// Whether a source shares a byte with the active bitmap: pane to pane does, pane and store don't, and of two bitmaps of the
-// store the rows decide. The rectangle lies in its bitmap, whose surface is s.
-pub fn sharing(active: Bitmap, source: Bitmap, s: Surface, x: u16, y: u16, dx: u16, dy: u16) -> bool
-    requires { ⌜ Readable s (2 ^ 32) × (blockBad s (block x y dx dy) ≡ false) ⌝ }
-    ensures { λ r. ⌜ r ≡ sharing active source s (block x y dx dy) ⌝ }
+// Whether a source shares a byte with the active bitmap: pane to pane does, pane and store don't, and of two
+// bitmaps of the store the rows decide. The block lies in the source, whose surface is s.
+pub fn sharing(active: Bitmap, source: Bitmap, s: Surface, b: Block) -> bool
+    requires { ⌜ Readable s (2 ^ 32) × (blockBad s (rectangleOf b) ≡ false) ⌝ }
+    ensures { λ r. ⌜ r ≡ sharing active source s (rectangleOf b) ⌝ }
 {
     match source {
         Bitmap::Absent => false,
@@ -77,12 +80,12 @@ pub fn sharing(active: Bitmap, source: Bitmap, s: Surface, x: u16, y: u16, dx: u
             xmax: _,
             ymax: _,
             bits: _,
-        } => canvas::is_pane(active),
+        } => bitmaps::is_pane(active),
         Bitmap::Store {
             address: _,
             xmax: _,
             ymax: _,
             bits: _,
-        } => rows_touch(active, s, x as usize, y as usize, dx as usize, dy as usize),
+        } => rows_touch(active, s, b),
     }
 }

@@ -4,9 +4,9 @@ use mathlib.Core.Bool.{false}
 use mathlib.Core.List.{List}
 use Prim.Native.Nat.{ℕ, _+_, _*_, _%_, _<_}
 use native.Mathlib.Omega.{arith}
-use lib.Dec.{ltb, eqb}
+use lib.Dec.{leb, eqb}
 use lib.ListN.{getD}
-use borrow.Author.Tests.{ltb-false}
+use borrow.Author.Tests.{leb-false}
 use Rattle.model.specs.declared.Font.{Font}
 use Rattle.model.specs.declared.Font.the-variants as font
 use Rattle.model.specs.Words.{wordAt, addressEnd}
@@ -29,7 +29,7 @@ module _ (store : List ℕ) (string k : ℕ) {f : Font} where
 
 -- "a font base .. above 22 bits" is refused
 base-small : (a : ℕ) → baseBad a ≡ false → a < addressEnd
-base-small a h = let p = either-false (eqb (a % 2) 1) (ltb 0x3FFFFF a) h in omega (arith, ltb-false 0x3FFFFF a (p .1))
+base-small a h = leb-false addressEnd a (either-false (eqb (a % 2) 1) (leb addressEnd a) h .1)
 
 pub baseOf-small : (f : Font) → fontBad f ≡ false → baseOf f < addressEnd
 baseOf-small font.Absent h = omega arith

@@ -1,5 +1,5 @@
-// CHAR's fault 25, before anything is drawn. Bytes of the store are bad if they are at an odd address (codes may be), outside the
-// store, or touch the active bitmap.
+// CHAR's fault 25, before anything is drawn. Bytes of the store are bad if they are at an odd address (codes
+// may be), outside the store, or touch the active bitmap.
 use crate::descriptor::descriptor_of;
 use crate::descriptor::height_of;
 use crate::descriptor::offset_at;
@@ -10,12 +10,11 @@ use model::Font;
 use model::Row;
 ghost use mathlib.Core.Path.{_≡_};
 ghost use mathlib.Core.Bool.{false, _||_};
-ghost use Prim.Native.Nat.{_+_, _*_, _<_};
+ghost use Prim.Native.Nat.{_^_, _<_};
 ghost use lib.ListN.{length};
-ghost use Rattle.model.specs.Words.{wordAt, addressEnd};
-ghost use Rattle.model.specs.Glyphs.{heightOf};
-ghost use Rattle.model.specs.Faults.{arrayBad, stringBad, descriptorsBad};
-ghost use Rattle.fault_text.specs.Reading.{offsetsBad, codesBad, Addressed, Coded};
+ghost use Rattle.model.specs.Words.{addressEnd};
+ghost use Rattle.model.specs.Faults.{stringBad, descriptorsBad};
+ghost use Rattle.fault_text.specs.Reading.{offsetsBad, codesBad, descriptorBad, StringAddressed, Coded};
 
 // Whether some offset word that the first n codes of a string name is bad. The codes lie in the store.
 fn offsets_bad(store: &[u8], r: Row, active: Bitmap, base: u32, string: usize, n: usize) -> bool
@@ -45,7 +44,7 @@ fn codes_bad(store: &[u8], r: Row, active: Bitmap, base: u32, string: usize, n: 
 
 // Whether the string, or in byte mode some offset word, is bad.
 fn string_bad(store: &[u8], r: Row, active: Bitmap, font: Font, string: u32, count: u16) -> bool
-    requires { ⌜ Addressed r (now store) font string ⌝ }
+    requires { ⌜ StringAddressed r (now store) font string ⌝ }
     ensures { λ res. ⌜ res ≡ stringBad r active (now (store .entry)) font string count ⌝ }
 {
     let at = string as usize;
@@ -59,13 +58,13 @@ fn string_bad(store: &[u8], r: Row, active: Bitmap, font: Font, string: u32, cou
 
 // Whether the descriptor at an address is bad: its first word, or one of the rows that this counts.
 fn descriptor_bad(store: &[u8], r: Row, active: Bitmap, at: usize) -> bool
-    requires { ⌜ (length (now store) ≡ r .len) × (at < 4294967296) ⌝ }
-    ensures { λ res. ⌜ res ≡ arrayBad r active at (2 + 2 * heightOf (wordAt (now (store .entry)) at)) ⌝ }
+    requires { ⌜ (length (now store) ≡ r .len) × (at < 2 ^ 32) ⌝ }
+    ensures { λ res. ⌜ res ≡ descriptorBad r active (now (store .entry)) at ⌝ }
 {
     if store.len() < at + 2 {
         return true;
     }
-    let rows = height_of(raster::word(store, at));
+    let rows = height_of(words::word(store, at));
     array_bad(r, active, at, 2 + 2 * rows)
 }
 
@@ -78,7 +77,8 @@ fn descriptors_bad(
     string: u32,
     count: u16,
 ) -> bool
-    requires { ⌜ Addressed r (now store) font string × (stringBad r active (now store) font string count ≡ false) ⌝ }
+    requires { ⌜ StringAddressed r (now store) font string
+        × (stringBad r active (now store) font string count ≡ false) ⌝ }
     ensures { λ res. ⌜ res ≡ descriptorsBad r active (now (store .entry)) font string count ⌝ }
 {
     let n = count as usize;
@@ -94,8 +94,9 @@ fn descriptors_bad(
 
 // Whether CHAR has fault 25.
 pub fn char_bad(store: &[u8], r: Row, active: Bitmap, font: Font, string: u32, count: u16) -> bool
-    requires { ⌜ Addressed r (now store) font string ⌝ }
-    ensures { λ res. ⌜ res ≡ (stringBad r active (now (store .entry)) font string count || descriptorsBad r active (now (store .entry)) font string count) ⌝ }
+    requires { ⌜ StringAddressed r (now store) font string ⌝ }
+    ensures { λ res. ⌜ res ≡ (stringBad r active (now (store .entry)) font string count
+        || descriptorsBad r active (now (store .entry)) font string count) ⌝ }
 {
     if string_bad(store, r, active, font, string, count) {
         return true;

@@ -1,22 +1,13 @@
 // A character's descriptor: where it stands, and what its first word says.
 use model::Font;
+use words::wide_byte;
+use words::wide_word;
+use words::word;
 ghost use mathlib.Core.Path.{_≡_};
 ghost use Prim.Native.Nat.{_+_, _*_, _≤_, _<_};
 ghost use lib.ListN.{length, getD};
 ghost use Rattle.model.specs.Glyphs.{baseOf, offsetWord, descriptor, heightOf, widthOf};
 ghost use Rattle.fault_text.specs.Reading.{Spelt};
-
-fn wide_byte(b: u8) -> usize
-    ensures { λ r. ⌜ (r ≡ b) × (r < 256) ⌝ }
-{
-    b as usize
-}
-
-fn wide_word(w: u16) -> usize
-    ensures { λ r. ⌜ (r ≡ w) × (r < 65536) ⌝ }
-{
-    w as usize
-}
 
 // The rows that a descriptor's first word gives.
 pub fn height_of(head: u16) -> usize
@@ -58,11 +49,11 @@ pub fn descriptor_of(store: &[u8], font: Font, string: u32, k: usize) -> usize
         Font::Absent => 0,
         Font::Word(base) => {
             let at = string as usize + 2 * k;
-            named(base, raster::word(store, at))
+            named(base, word(store, at))
         }
         Font::Byte(base) => {
             let at = offset_at(store, base, string as usize + k);
-            named(base, raster::word(store, at))
+            named(base, word(store, at))
         }
     }
 }

@@ -1,4 +1,4 @@
-// CHAR's string in the store: where the descriptors of its characters stand, and whether all of it can be read.
+// CHAR's string in the store: where its characters' descriptors stand, and whether all of it can be read.
 
 // A character's descriptor: where it stands, and what its first word says.
 pub mod descriptor;

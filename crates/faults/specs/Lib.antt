@@ -1,2 +1,2 @@
 -- What the contracts of `faults` cite beside model's definitions.
-pub mod Sound
+pub mod Judging

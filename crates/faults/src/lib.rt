@@ -1,28 +1,48 @@
 // Each command's fault, looked for before any of that command is done.
-use canvas::surface_of;
+use bitmaps::surface_of;
 use fault_copies::block_bad;
 use model::Bitmap;
+use model::Block;
 use model::Clip;
 use model::Command;
 use model::Font;
-use model::Geometry;
+use model::Frame;
 use model::Pane;
 use model::Returns;
 use model::Row;
-use refusals::table::refuse;
+use words::number_if;
 ghost use mathlib.Core.Path.{_≡_};
 ghost use mathlib.Core.Bool.{false, cond, _||_};
 ghost use Prim.Native.Nat.{_%_, _≤_, _<_, _^_};
 ghost use lib.Dec.{eqb, leb};
 ghost use lib.ListN.{length};
-ghost use Rattle.model.specs.Numbers.{faultBitmap, faultNoBitmap, faultClip, faultData, faultCall, faultReturn, faultNoFont, faultCopy};
+ghost use Rattle.model.specs.Numbers.{
+  faultBitmap,
+  faultNoBitmap,
+  faultClip,
+  faultData,
+  faultCall,
+  faultReturn,
+  faultNoFont,
+  faultCopy,
+};
 ghost use Rattle.model.specs.Words.{addressEnd};
 ghost use Rattle.model.specs.Bitmaps.{surfaceOf, ruleBroken};
 ghost use Rattle.model.specs.Commands.{Addressed};
-ghost use Rattle.model.specs.Copies.{blockBad};
-ghost use Rattle.model.specs.Faults.{noBitmap, noFont, clipOutside, arrayBad, stringBad, descriptorsBad, block, copyFault, faultOf};
-ghost use Rattle.fault_text.specs.Reading as reading;
-ghost use Rattle.faults.specs.Sound.{clipOf, sourceOf, Active, Sound};
+ghost use Rattle.model.specs.Copies.{rectangleOf, blockBad};
+ghost use Rattle.model.specs.Faults.{
+  noBitmap,
+  noFont,
+  clipOutside,
+  arrayBad,
+  stringBad,
+  descriptorsBad,
+  copyFault,
+  faultOf,
+};
+ghost use Rattle.bitmaps.specs.Areas.{Active};
+ghost use Rattle.fault_text.specs.Reading.{StringAddressed};
+ghost use Rattle.faults.specs.Judging.{clipOf, Judged};
 
 // "DEF_BITMAP: 22 rule broken", and so for BIT_BLT_M's source.
 const FAULT_BITMAP: u8 = 22;
@@ -33,8 +53,8 @@ const FAULT_NO_BITMAP: u8 = 23;
 // "24 outside it": a clip that the bitmap does not hold.
 const FAULT_CLIP: u8 = 24;
 
-// "DEF_CHAR_SET: 25 odd base"; "25 an array, string, offset word or descriptor at an odd address .., outside the store or
-// touching the active bitmap".
+// "DEF_CHAR_SET: 25 odd base"; "25 an array, string, offset word or descriptor at an odd address .., outside
+// the store or touching the active bitmap".
 const FAULT_DATA: u8 = 25;
 
 // "CALL: 26 eight kept".
@@ -46,8 +66,8 @@ const FAULT_RETURN: u8 = 27;
 // "CHAR 28 no font".
 const FAULT_NO_FONT: u8 = 28;
 
-// "29 a copy's dx or dy negative, its source outside its bitmap, or BIT_BLT_M's source sharing a byte with the active
-// bitmap".
+// "29 a copy's dx or dy negative, its source outside its bitmap, or BIT_BLT_M's source sharing a byte with
+// the active bitmap".
 const FAULT_COPY: u8 = 29;
 
 // ---- Commands that change the record alone
@@ -56,28 +76,28 @@ const FAULT_COPY: u8 = 29;
 fn font_fault(base: u32) -> u8
     ensures { λ f. ⌜ f ≡ cond (eqb (base % 2) 1) faultData 0 ⌝ }
 {
-    refuse(base % 2 == 1, FAULT_DATA, 0)
+    number_if(base % 2 == 1, FAULT_DATA, 0)
 }
 
 // CALL's fault.
 fn call_fault(kept: Returns) -> u8
     ensures { λ f. ⌜ f ≡ cond (leb 8 (kept .count)) faultCall 0 ⌝ }
 {
-    refuse(8 <= kept.count, FAULT_CALL, 0)
+    number_if(8 <= kept.count, FAULT_CALL, 0)
 }
 
 // RETURN's fault.
 fn return_fault(kept: Returns) -> u8
     ensures { λ f. ⌜ f ≡ cond (eqb (kept .count) 0) faultReturn 0 ⌝ }
 {
-    refuse(kept.count == 0, FAULT_RETURN, 0)
+    number_if(kept.count == 0, FAULT_RETURN, 0)
 }
 
 // DEF_BITMAP's fault.
-fn bitmap_fault(g: Geometry, r: Row, b: Bitmap) -> u8
-    ensures { λ f. ⌜ f ≡ cond (ruleBroken g r b) faultBitmap 0 ⌝ }
+fn bitmap_fault(f: Frame, b: Bitmap) -> u8
+    ensures { λ n. ⌜ n ≡ cond (ruleBroken (f .geometry) (f .row) b) faultBitmap 0 ⌝ }
 {
-    refuse(bitmaps::rule_broken(g, r, b), FAULT_BITMAP, 0)
+    number_if(bitmaps::rule_broken(f, b), FAULT_BITMAP, 0)
 }
 
 // ---- Commands that need the active bitmap
@@ -86,12 +106,13 @@ fn bitmap_fault(g: Geometry, r: Row, b: Bitmap) -> u8
 fn draw_fault(active: Bitmap, rest: u8) -> u8
     ensures { λ f. ⌜ f ≡ cond (noBitmap active) faultNoBitmap rest ⌝ }
 {
-    refuse(bitmaps::no_bitmap(active), FAULT_NO_BITMAP, rest)
+    number_if(bitmaps::no_bitmap(active), FAULT_NO_BITMAP, rest)
 }
 
 // DEF_CLIP_RECT's fault.
 fn clip_fault(active: Bitmap, xmin: u16, ymin: u16, xmax: u16, ymax: u16) -> u8
-    ensures { λ f. ⌜ f ≡ cond (noBitmap active) faultNoBitmap (cond (clipOutside active (clipOf xmin ymin xmax ymax)) faultClip 0) ⌝ }
+    ensures { λ f. ⌜ f
+        ≡ cond (noBitmap active) faultNoBitmap (cond (clipOutside active (clipOf xmin ymin xmax ymax)) faultClip 0) ⌝ }
 {
     let clip = Clip {
         xmin,
@@ -100,7 +121,7 @@ fn clip_fault(active: Bitmap, xmin: u16, ymin: u16, xmax: u16, ymax: u16) -> u8
         ymax,
     };
     let outside = bitmaps::clip_outside(active, clip);
-    draw_fault(active, refuse(outside, FAULT_CLIP, 0))
+    draw_fault(active, number_if(outside, FAULT_CLIP, 0))
 }
 
 // The fault of POLYLINE or SCAN_LINES, whose array has so many bytes.
@@ -109,7 +130,7 @@ fn array_fault(r: Row, active: Bitmap, array: u32, size: usize) -> u8
     ensures { λ f. ⌜ f ≡ cond (noBitmap active) faultNoBitmap (cond (arrayBad r active array size) faultData 0) ⌝ }
 {
     let bad = bitmaps::array_bad(r, active, array as usize, size);
-    draw_fault(active, refuse(bad, FAULT_DATA, 0))
+    draw_fault(active, number_if(bad, FAULT_DATA, 0))
 }
 
 // Whether there is no font.
@@ -125,68 +146,56 @@ fn no_font(font: Font) -> bool
 
 // CHAR's fault.
 fn char_fault(store: &[u8], r: Row, active: Bitmap, font: Font, string: u32, count: u16) -> u8
-    requires { ⌜ reading.Addressed r (now store) font string ⌝ }
-    ensures { λ f. ⌜ f ≡ cond (noBitmap active) faultNoBitmap (cond (noFont font) faultNoFont (cond (stringBad r active (now (store .entry)) font string count || descriptorsBad r active (now (store .entry)) font string count) faultData 0)) ⌝ }
+    requires { ⌜ StringAddressed r (now store) font string ⌝ }
+    ensures { λ f. ⌜ f
+        ≡ cond (noBitmap active) faultNoBitmap (cond (noFont font) faultNoFont
+        (cond (stringBad r active (now (store .entry)) font string count
+        || descriptorsBad r active (now (store .entry)) font string count) faultData 0)) ⌝ }
 {
     let bad = fault_text::char_bad(store, r, active, font, string, count);
     let absent = no_font(font);
-    let fault = refuse(absent, FAULT_NO_FONT, refuse(bad, FAULT_DATA, 0));
+    let fault = number_if(absent, FAULT_NO_FONT, number_if(bad, FAULT_DATA, 0));
     draw_fault(active, fault)
 }
 
 // ---- Copies
 
 // BIT_BLT's fault: the source lies in the active bitmap.
-fn block_fault(g: Geometry, r: Row, active: Bitmap, x: u16, y: u16, dx: u16, dy: u16) -> u8
-    requires { ⌜ (g .width ≤ 4096) × (g .depth ≤ 8) ⌝ }
-    ensures { λ f. ⌜ f ≡ cond (noBitmap active) faultNoBitmap (cond (blockBad (surfaceOf g r active) (block x y dx dy)) faultCopy 0) ⌝ }
+fn block_fault(f: Frame, active: Bitmap, b: Block) -> u8
+    requires { ⌜ (f .geometry .width ≤ 4096) × (f .geometry .depth ≤ 8) ⌝ }
+    ensures { λ n. ⌜ n
+        ≡ cond (noBitmap active) faultNoBitmap
+        (cond (blockBad (surfaceOf (f .geometry) (f .row) active) (rectangleOf b)) faultCopy 0) ⌝ }
 {
-    let bad = block_bad(surface_of(g, r, active), x, y, dx, dy);
-    draw_fault(active, refuse(bad, FAULT_COPY, 0))
+    let bad = block_bad(surface_of(f, active), b);
+    draw_fault(active, number_if(bad, FAULT_COPY, 0))
 }
 
-// BIT_BLT_M's fault but for 23, by its source bitmap. What the source shares with the active bitmap is looked at last,
-// since only a rectangle inside a bitmap that keeps the rule has all its bytes in the store.
-fn copy_fault(
-    g: Geometry,
-    r: Row,
-    active: Bitmap,
-    source: Bitmap,
-    x: u16,
-    y: u16,
-    dx: u16,
-    dy: u16,
-) -> u8
-    requires { ⌜ Active g r active × (noBitmap source ≡ false) ⌝ }
-    ensures { λ f. ⌜ f ≡ copyFault g r active source (block x y dx dy) ⌝ }
+// BIT_BLT_M's fault but for 23, by its source bitmap. What the source shares with the active bitmap is looked
+// at last, since only a rectangle inside a bitmap that keeps the rule has all its bytes in the store.
+fn copy_fault(f: Frame, active: Bitmap, source: Bitmap, b: Block) -> u8
+    requires { ⌜ Active (f .geometry) (f .row) active × (noBitmap source ≡ false) ⌝ }
+    ensures { λ n. ⌜ n ≡ copyFault (f .geometry) (f .row) active source (rectangleOf b) ⌝ }
 {
-    if bitmaps::rule_broken(g, r, source) {
+    if bitmaps::rule_broken(f, source) {
         return FAULT_BITMAP;
     }
-    let s = surface_of(g, r, source);
-    if block_bad(s, x, y, dx, dy) {
+    let s = surface_of(f, source);
+    if block_bad(s, b) {
         return FAULT_COPY;
     }
-    let shared = fault_copies::sharing(active, source, s, x, y, dx, dy);
-    refuse(shared, FAULT_COPY, 0)
-}
-
-// The bitmap that BIT_BLT_M names: it has the active bitmap's bits per pixel.
-fn source_of(g: Geometry, r: Row, active: Bitmap, address: u32, xmax: u16, ymax: u16) -> Bitmap
-    requires { ⌜ Active g r active ⌝ }
-    ensures { λ b. ⌜ (b ≡ sourceOf g r active address xmax ymax) × (noBitmap b ≡ false) ⌝ }
-{
-    let s = surface_of(g, r, active);
-    bitmaps::bitmap_of(address, xmax, ymax, s.bits as u16)
+    let shared = fault_copies::sharing(active, source, s, b);
+    number_if(shared, FAULT_COPY, 0)
 }
 
 // ---- All commands
 
 // A command's fault, or 0 for none.
-pub fn fault_of(store: &[u8], g: Geometry, r: Row, p: Pane, c: Command) -> u8
-    requires { ⌜ Sound g r p (length (now store)) × Addressed c ⌝ }
-    ensures { λ f. ⌜ f ≡ faultOf g r p (now (store .entry)) c ⌝ }
+pub fn fault_of(store: &[u8], f: Frame, p: Pane, c: Command) -> u8
+    requires { ⌜ Judged (f .geometry) (f .row) p (length (now store)) × Addressed c ⌝ }
+    ensures { λ n. ⌜ n ≡ faultOf (f .geometry) (f .row) p (now (store .entry)) c ⌝ }
 {
+    let r = f.row;
     let active = p.bitmap;
     let kept = p.returns;
     let text = p.text;
@@ -206,7 +215,7 @@ pub fn fault_of(store: &[u8], g: Geometry, r: Row, p: Pane, c: Command) -> u8
             xmax,
             ymax,
             bits,
-        } => bitmap_fault(g, r, bitmaps::bitmap_of(address, xmax, ymax, bits)),
+        } => bitmap_fault(f, bitmaps::bitmap_of(address, xmax, ymax, bits)),
         Command::DefColors { fore: _, back: _ } => 0,
         Command::DefLogicalOp { mask: _, code: _ } => 0,
         Command::EnterPick => 0,
@@ -224,7 +233,7 @@ pub fn fault_of(store: &[u8], g: Geometry, r: Row, p: Pane, c: Command) -> u8
         Command::Point { dx: _, dy: _ } => draw_fault(active, 0),
         Command::Line { dx: _, dy: _ } => draw_fault(active, 0),
         Command::Rect { dx: _, dy: _ } => draw_fault(active, 0),
-        Command::BitBlt { x, y, dx, dy } => block_fault(g, r, active, x, y, dx, dy),
+        Command::BitBlt { block } => block_fault(f, active, block),
         Command::Polyline { array, count } => array_fault(r, active, array, 4 * (count as usize)),
         Command::Char {
             string,
@@ -235,13 +244,10 @@ pub fn fault_of(store: &[u8], g: Geometry, r: Row, p: Pane, c: Command) -> u8
             address,
             xmax,
             ymax,
-            x,
-            y,
-            dx,
-            dy,
+            block,
         } => {
-            let source = source_of(g, r, active, address, xmax, ymax);
-            draw_fault(active, copy_fault(g, r, active, source, x, y, dx, dy))
+            let source = bitmaps::source_of(f, active, address, xmax, ymax);
+            draw_fault(active, copy_fault(f, active, source, block))
         }
         Command::ScanLines { array, count } => array_fault(r, active, array, 6 * (count as usize)),
     }

@@ -13,7 +13,8 @@ use Rattle.model.specs.Ranges.{orElse}
 use Rattle.model.specs.Numbers.{refuseRecord}
 use Rattle.model.specs.Bitmaps.{paneSurface, pixels}
 use Rattle.model.specs.Setup.{paneBad}
-use Rattle.model.specs.Calls.{State, Call, Request, on, Answer, Outcome, rowOf, recordOf, storeOf, part, ownRefusal, setupRefusal, callChecks, refusal, withPane, onPane, accepted, exec}
+use Rattle.model.specs.Calls.{State, Call, Request, on, Answer, Outcome, rowOf, recordOf, storeOf, part, ownRefusal, setupRefusal, callChecks, refusal}
+use Rattle.model.specs.Calls.{withPane, onPane, accepted, exec}
 use Rattle.model.proofs.CallLaws.{onPane-agree, exec-accepted, exec-refused}
 use Rattle.isolation.proofs.States.{Share, shareOf, On, on-fits}
 use Rattle.isolation.proofs.Frame.{taken, outcomeOf, accepted-record, accepted-store}
@@ -34,7 +35,7 @@ module _ (g : Geometry) (k : ℕ) (r : Row) where
 
   refusal-on : (s : State) → On g k r s → (x : Call) → refusal s (on k x) ≡ ownNumber (recordOf s k) x
   unfolding refusal callChecks setupRefusal rowOf recordOf ownNumber
-  refusal-on s o x = rw (o .sound .check, lt-leb (s .console .count) k (o .here), o .row, o .geometry)
+  refusal-on s o x = rw (o .consistent .check, lt-leb (s .console .count) k (o .here), o .row, o .geometry)
 
   -- ## The work
 
@@ -51,17 +52,20 @@ module _ (g : Geometry) (k : ℕ) (r : Row) where
 
   accepted-told : (s : State) → On g k r s → (x : Call) → refusal s (on k x) ≡ 0 → toldBy (accepted s (on k x)) ≡ told (outcomeIn s x)
   unfolding toldBy told shareOf accepted withPane outcomeOf
-  accepted-told s o x e = (λ i. record { reply = out .reply; share = record { shown = pixels (paneSurface g r) (out .screen); store = store i; pane = pane i } })
+  accepted-told s o x e =
+      (λ i. record { reply = out .reply; share = record { shown = pixels (paneSurface g r) (out .screen); store = store i; pane = pane i } })
       ∙ ap told (outcome-on s o x)
     where
       out : Outcome
       out = outcomeOf s (on k x)
 
       store : part (accepted s (on k x) .state .stores) (r .start) (r .len) ≡ out .store
-      store = ap (λ (z : Row). part (accepted s (on k x) .state .stores) (z .start) (z .len)) (sym (o .row)) ∙ accepted-store s (o .sound) (on k x) (taken s (on k x) e)
+      store =
+          ap (λ (z : Row). part (accepted s (on k x) .state .stores) (z .start) (z .len)) (sym (o .row))
+          ∙ accepted-store s (o .consistent) (on k x) (taken s (on k x) e)
 
       pane : recordOf (accepted s (on k x) .state) k ≡ out .pane
-      pane = accepted-record s (o .sound) (on k x) (taken s (on k x) e)
+      pane = accepted-record s (o .consistent) (on k x) (taken s (on k x) e)
 
   -- ## Both
 
@@ -84,7 +88,8 @@ module _ (g : Geometry) (k : ℕ) (r : Row) where
     same-work : told (outcomeIn s x) ≡ told (outcomeIn t x)
     unfolding told outcomeIn
     same-work =
-        let w = onPane-agree g r (recordOf s k) (s .screen) (t .screen) (part (s .stores) (r .start) (r .len)) (on-fits g k r s o) (on-fits g k r t q) shown x in
+        let w = onPane-agree g r (recordOf s k) (s .screen) (t .screen) (part (s .stores) (r .start) (r .len)) (on-fits g k r s o) (on-fits g k r t q) shown
+        x in
         (λ i. record { reply = w .reply i; share = record { shown = w .shown i; store = w .store i; pane = w .pane i } })
         ∙ (λ i. told (onPane g r (pane i) (t .screen) (store i) x))
 
@@ -100,5 +105,6 @@ module _ (g : Geometry) (k : ℕ) (r : Row) where
             ap toldBy (exec-refused s (on k x) e) ∙ (λ i. record { reply = refusedWith (same-refusal i); share = v i })
             ∙ sym (ap toldBy (exec-refused t (on k x) (λ z. e (same-refusal ∙ z))))
 
-  pub exec-own : (s t : State) → On g k r s → On g k r t → shareOf g k r s ≡ shareOf g k r t → (c : Request) → c .number ≡ k → toldBy (exec s c) ≡ toldBy (exec t c)
+  pub exec-own : (s t : State) → On g k r s → On g k r t → shareOf g k r s ≡ shareOf g k r t → (c : Request) → c .number ≡ k → toldBy (exec s c)
+      ≡ toldBy (exec t c)
   exec-own s t o q v c e = subst (λ (z : Request). toldBy (exec s z) ≡ toldBy (exec t z)) (λ i. on (sym e i) (c .call)) (same-told s t o q v (c .call))

@@ -9,12 +9,12 @@ use Rattle.model.specs.Bitmaps.{paneSurface}
 use Rattle.model.specs.Calls.{State, Request, Answer, rowOf, accepted, exec}
 use Rattle.model.proofs.PixelLaws.{InPane}
 use Rattle.isolation.specs.TwoRuns.{after, InPixels, InStore, InNoPixels, InNoStore}
-use Rattle.isolation.proofs.States.{Sound, Stays, stays-trans, stays-row}
+use Rattle.isolation.proofs.States.{Consistent, Stays, stays-trans, stays-row}
 use Rattle.isolation.proofs.Frame.{Taken, exec-cases, Keeps, accepted-keeps, beside}
 
 -- what every list keeps of the state a that was lent to set-up
 pub record Held (a s : State) : Type 0 where
-  pub sound : Sound s
+  pub consistent : Consistent s
   pub stays : Stays a s
   pub screen : (n : ℕ) → InNoPixels a n → bitAt (s .screen) n ≡ bitAt (a .screen) n
   pub stores : (n : ℕ) → InNoStore a n → bitAt (s .stores) n ≡ bitAt (a .stores) n
@@ -29,7 +29,7 @@ held-exec a s w c = exec-cases s c (λ (z : Answer). Held a (z .state)) (λ m. w
   where
     go : Taken s c → Held a (accepted s c .state)
     go h = record {
-      sound = u .sound;
+      consistent = u .consistent;
       stays = stays-trans a s _ (w .stays) (u .stays);
       screen = λ n gap. u .screen n (λ p. gap (c .number) here (subst (λ (g : Geometry). InPixels g (rowOf a (c .number)) n) (w .stays .geometry)
           (subst (λ (z : Row). InPixels (s .console .geometry) z n) row (pane-bit (s .console .geometry) (rowOf s (c .number)) n p)))) ∙ w .screen n gap;
@@ -38,7 +38,7 @@ held-exec a s w c = exec-cases s c (λ (z : Answer). Held a (z .state)) (λ m. w
     }
       where
         u : Keeps s (c .number) (accepted s c .state)
-        u = accepted-keeps s (w .sound) c h
+        u = accepted-keeps s (w .consistent) c h
 
         row : rowOf s (c .number) ≡ rowOf a (c .number)
         row = stays-row a s (w .stays) (c .number)

@@ -6,7 +6,7 @@ use Rattle.model.specs.Pixels.{blend, change, changes}
 use Rattle.model.specs.Dots.{visible, hits, changesOf}
 use Rattle.model.specs.Lines.{lineDots, line}
 use Rattle.model.specs.Copies.{seen, copyDots, copy, blockBad}
-use Rattle.model.specs.Commands.{shapeOf, commandOf, fetch, decode}
+use Rattle.model.specs.Commands.{opcodeOf, commandOf, fetch, decode}
 use Rattle.model.specs.Faults.{clipOutside, faultOf}
 use Rattle.model.specs.Effects.{effectOf}
 use Rattle.model.specs.Steps.{madeBy, planOf, judged, obey, step}
@@ -16,5 +16,10 @@ use Rattle.model.specs.Calls.{part, inPart, ownRefusal, onPane, rowOf, recordOf
 use Rattle.isolation.specs.TwoRuns.{after, callsOn, repliesOn, Accepted, SamePixels, storeIn}
 
 unfoldable pub machine : Unit {0}
-unfolding anyBelow listed joined bit num bitAt fieldAt splice putField gridBit placeBit placeShift inside pixels paneSurface surfaceOf paneBitmapBad ruleBroken blend change changes visible hits changesOf lineDots line seen copyDots copy blockBad shapeOf commandOf fetch decode clipOutside faultOf effectOf madeBy planOf judged obey step stepped follow runs geometryBad rectangleBad storeBad sharePixel shareByte checks progressBad paneBad part inPart ownRefusal onPane rowOf recordOf storeOf setupRefusal callChecks refusal withPane accepted exec setUp after callsOn repliesOn Accepted SamePixels storeIn
+unfolding anyBelow listed joined bit num bitAt fieldAt splice putField gridBit placeBit placeShift inside pixels paneSurface surfaceOf paneBitmapBad
+    ruleBroken
+    blend change changes visible hits changesOf lineDots line seen copyDots copy blockBad opcodeOf commandOf fetch decode clipOutside faultOf effectOf madeBy
+    planOf judged obey step stepped follow runs geometryBad rectangleBad storeBad sharePixel shareByte checks progressBad paneBad part inPart ownRefusal
+    onPane
+    rowOf recordOf storeOf setupRefusal callChecks refusal withPane accepted exec setUp after callsOn repliesOn Accepted SamePixels storeIn
 machine = tt

@@ -17,14 +17,15 @@ use Rattle.model.specs.Bitmaps.{rowWords, gridBit, placeBit, paneSurface, pixel
 use Rattle.model.specs.Numbers.{refusePane, refuseRecord}
 use Rattle.model.specs.Record.{noPane}
 use Rattle.model.specs.Setup.{paneBad}
-use Rattle.model.specs.Calls.{State, Request, Answer, Outcome, rowOf, recordOf, storeOf, part, ownRefusal, setupRefusal, callChecks, callRefusal, refusal, refused, withPane, onPane, accepted, exec}
+use Rattle.model.specs.Calls.{State, Request, Answer, Outcome, rowOf, recordOf, storeOf, part, ownRefusal, setupRefusal, callChecks, callRefusal, refusal}
+use Rattle.model.specs.Calls.{refused, withPane, onPane, accepted, exec}
 use Rattle.model.proofs.Decisions.{cond-ind, cond-none, orElse-none}
 use Rattle.model.proofs.PlaceLaws.{apart}
 use Rattle.model.proofs.PartLaws.{length-part, part-ext, length-inPart, part-inPart, inPart-out}
 use Rattle.model.proofs.PixelLaws.{InPane, same-bits}
 use Rattle.model.proofs.SetupLaws.{Valid, NoPixel, NoByte}
 use Rattle.model.proofs.CallLaws.{Local, onPane-local}
-use Rattle.isolation.proofs.States.{Sound, valid, columns-fit, pane-fits, Stays, stays-refusal, shareOf, On, on-stays}
+use Rattle.isolation.proofs.States.{Consistent, valid, columns-fit, pane-fits, Stays, stays-refusal, shareOf, On, on-stays}
 
 -- ## Refused or carried out
 
@@ -42,7 +43,7 @@ unfolding refusal callChecks setupRefusal rowOf recordOf
 taken s c e =
     let a = orElse-none (callRefusal s (c .number)) (ownRefusal (rowOf s (c .number)) (recordOf s (c .number)) (c .call)) e in
     let b = orElse-none (setupRefusal s) (paneRefusal s (c .number)) (a .0) in
-    record { here = leb-false _ _ (cond-none (leb (s .console .count) (c .number)) 0 _ (b .1) .0); own = a .1 }
+    record { here = leb-false _ _ (cond-none (leb (s .console .count) (c .number)) refusePane _ tt (b .1) .0); own = a .1 }
 
 pub exec-cases {ℓ} : (s : State) (c : Request) (P : Answer → Type ℓ) → ((n : ℕ) → P (refused s n)) → (Taken s c → P (accepted s c)) → P (exec s c)
 unfolding exec
@@ -51,7 +52,7 @@ exec-cases s c P f g = cond-ind P (eqb (refusal s c) 0) _ _ (λ e. g (taken s c 
 -- ## What a call on pane j keeps
 
 pub record Keeps (s : State) (j : ℕ) (t : State) : Type 0 where
-  pub sound : Sound t
+  pub consistent : Consistent t
   pub stays : Stays s t
   pub screen : (n : ℕ) → (InPane (paneSurface (s .console .geometry) (rowOf s j)) n → ⊥) → bitAt (t .screen) n ≡ bitAt (s .screen) n
   pub stores : (i : ℕ) → (i < rowOf s j .start) ⊎ (rowOf s j .start + rowOf s j .len ≤ i) → getD (t .stores) i 0 ≡ getD (s .stores) i 0
@@ -61,7 +62,7 @@ pub record Keeps (s : State) (j : ℕ) (t : State) : Type 0 where
 unfoldable pub outcomeOf : State → Request → Outcome
 outcomeOf s c = onPane (s .console .geometry) (rowOf s (c .number)) (recordOf s (c .number)) (s .screen) (storeOf s (c .number)) (c .call)
 
-module _ (s : State) (d : Sound s) (c : Request) (h : Taken s c) where
+module _ (s : State) (d : Consistent s) (c : Request) (h : Taken s c) where
   r : Row
   r = rowOf s (c .number)
 
@@ -70,7 +71,7 @@ module _ (s : State) (d : Sound s) (c : Request) (h : Taken s c) where
 
   room : r .start + r .len ≤ length (s .stores)
   unfolding r rowOf
-  room = valid s d .store (c .number) (h .here)
+  room = valid s d .store (c .number) (h .here) .room
 
   local : Local (s .console .geometry) r (recordOf s (c .number)) (s .screen) (storeOf s (c .number)) o
   unfolding o r outcomeOf storeOf
@@ -82,12 +83,20 @@ module _ (s : State) (d : Sound s) (c : Request) (h : Taken s c) where
 
   stays : Stays s (accepted s c .state)
   unfolding accepted withPane o outcomeOf r
-  stays = record { geometry = refl; count = refl; rows = refl; screen = local .frame .length; stores = length-inPart (s .stores) (r .start) (r .len) (o .store) size room }
+  stays =
+      record {
+        geometry = refl;
+        count = refl;
+        rows = refl;
+        screen = local .frame .length;
+        stores = length-inPart (s .stores) (r .start) (r .len) (o .store) size
+            room;
+      }
 
   pub accepted-keeps : Keeps s (c .number) (accepted s c .state)
   unfolding accepted withPane o outcomeOf recordOf r
   accepted-keeps = record {
-    sound = record { check = stays-refusal s _ stays ∙ d .check; records = length-set (s .console .panes) (c .number) (o .pane) ∙ d .records };
+    consistent = record { check = stays-refusal s _ stays ∙ d .check; records = length-set (s .console .panes) (c .number) (o .pane) ∙ d .records };
     stays = stays;
     screen = local .frame .bits;
     stores = inPart-out (s .stores) (r .start) (r .len) (o .store) size room;
@@ -97,7 +106,7 @@ module _ (s : State) (d : Sound s) (c : Request) (h : Taken s c) where
   -- and what it leaves of its own
   pub accepted-record : recordOf (accepted s c .state) (c .number) ≡ outcomeOf s c .pane
   unfolding accepted withPane o outcomeOf recordOf
-  accepted-record = getD-set-same (s .console .panes) (c .number) (o .pane) noPane (omega (arith, h .here, d .records, valid s d .count))
+  accepted-record = getD-set-same (s .console .panes) (c .number) (o .pane) noPane (omega (arith, h .here, d .records, valid s d .geometry .count))
 
   pub accepted-store : part (accepted s c .state .stores) (rowOf s (c .number) .start) (rowOf s (c .number) .len) ≡ outcomeOf s c .store
   unfolding accepted withPane o outcomeOf r
@@ -125,7 +134,8 @@ no-bit g a b d f h o n p q = go (ℕ-discrete (a .left + p .x) (b .left + q .x))
     go (no u) _ = clash (inl u)
     go (yes u) (no v) = clash (inr v)
     go (yes u) (yes v) = o (a .left + p .x) (a .top + p .y)
-        (omega arith) (omega (arith, p .x-in)) (omega arith) (omega (arith, q .x-in)) (omega arith) (omega (arith, p .y-in)) (omega arith) (omega (arith, q .y-in))
+        (omega arith) (omega (arith, p .x-in)) (omega arith) (omega (arith, q .x-in)) (omega arith) (omega (arith, p .y-in)) (omega arith)
+        (omega (arith, q .y-in))
 
 -- a place that is not in a store is before or after it
 pub beside : (r : Row) (i : ℕ) → (r .start ≤ i → i < r .start + r .len → ⊥) → (i < r .start) ⊎ (r .start + r .len ≤ i)
@@ -138,11 +148,11 @@ beside r i f = go (decLt i (r .start)) (decLt i (r .start + r .len))
 
 -- ## Another pane sees nothing of the call
 
-depth-here : (s : State) → Sound s → (k : ℕ) → Depth (paneSurface (s .console .geometry) (rowOf s k) .bits)
+depth-here : (s : State) → Consistent s → (k : ℕ) → Depth (paneSurface (s .console .geometry) (rowOf s k) .bits)
 unfolding paneSurface
 depth-here s d k = valid s d .depth
 
-unseen : (s t : State) (j k : ℕ) → Sound s → j < s .console .count → k < s .console .count → k ≢ j → Keeps s j t
+unseen : (s t : State) (j k : ℕ) → Consistent s → j < s .console .count → k < s .console .count → k ≢ j → Keeps s j t
     → shareOf (s .console .geometry) k (rowOf s k) t ≡ shareOf (s .console .geometry) k (rowOf s k) s
 unfolding rowOf NoByte shareOf
 unseen s t j k d hj hk n w = λ i. record { shown = shown i; store = store i; pane = w .records k n i }
@@ -152,17 +162,21 @@ unseen s t j k d hj hk n w = λ i. record { shown = shown i; store = store i; pa
 
     shown : pixels (paneSurface (s .console .geometry) (rowOf s k)) (t .screen) ≡ pixels (paneSurface (s .console .geometry) (rowOf s k)) (s .screen)
     shown = same-bits (paneSurface (s .console .geometry) (rowOf s k)) (t .screen) (s .screen) (depth-here s d k) λ i p. w .screen i λ q.
-        no-bit (s .console .geometry) (rowOf s k) (rowOf s j) (v .depth) (v .right k hk) (v .right j hj) (v .no-pixels k j hk hj n) i p q
+        no-bit (s .console .geometry) (rowOf s k) (rowOf s j) (v .depth) (v .rectangle k hk .right) (v .rectangle j hj .right) (v .no-pixels k j hk hj n) i p
+        q
 
     store : part (t .stores) (rowOf s k .start) (rowOf s k .len) ≡ part (s .stores) (rowOf s k .start) (rowOf s k .len)
-    store = part-ext (t .stores) (s .stores) (rowOf s k .start) (rowOf s k .len) (omega (arith, v .store k hk, w .stays .stores)) (v .store k hk) λ i b.
-        w .stores (rowOf s k .start + i) (beside (rowOf s j) (rowOf s k .start + i) (λ l m. v .no-bytes k j hk hj n (rowOf s k .start + i) (omega arith) (omega arith) l m))
+    store =
+        part-ext (t .stores) (s .stores) (rowOf s k .start) (rowOf s k .len) (omega (arith, v .store k hk .room, w .stays .stores)) (v .store k hk .room)
+        λ i b.
+        w .stores (rowOf s k .start + i) (beside (rowOf s j) (rowOf s k .start + i)
+        (λ l m. v .no-bytes k j hk hj n (rowOf s k .start + i) (omega arith) (omega arith) l m))
 
 module _ (g : Geometry) (k : ℕ) (r : Row) where
   pub exec-on : (s : State) → On g k r s → (c : Request) → On g k r (exec s c .state)
   exec-on s o c = exec-cases s c (λ (a : Answer). On g k r (a .state)) (λ n. o) λ h.
-      let w = accepted-keeps s (o .sound) c h in on-stays g k r s _ (w .sound) (w .stays) o
+      let w = accepted-keeps s (o .consistent) c h in on-stays g k r s _ (w .consistent) (w .stays) o
 
   pub exec-other : (s : State) → On g k r s → (c : Request) → c .number ≢ k → shareOf g k r (exec s c .state) ≡ shareOf g k r s
   exec-other s o c n = exec-cases s c (λ (a : Answer). shareOf g k r (a .state) ≡ shareOf g k r s) (λ m. refl) λ h.
-      rw (← o .geometry, ← o .row) (unseen s _ (c .number) k (o .sound) (h .here) (o .here) (λ e. n (sym e)) (accepted-keeps s (o .sound) c h))
+      rw (← o .geometry, ← o .row) (unseen s _ (c .number) k (o .consistent) (h .here) (o .here) (λ e. n (sym e)) (accepted-keeps s (o .consistent) c h))

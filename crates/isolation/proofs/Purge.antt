@@ -28,7 +28,8 @@ module _ (g : Geometry) (k : ℕ) (r : Row) where
   unfoldable pub account : State → List Request → Account
   account s cs = record { replies = repliesOn k s cs; share = shareOf g k r (after s cs) }
 
-  account-own : (s : State) (c : Request) (cs : List Request) → eqb (c .number) k ≡ true → account s (c ∷ cs) ≡ withReply (exec s c .reply) (account (exec s c .state) cs)
+  account-own : (s : State) (c : Request) (cs : List Request) → eqb (c .number) k ≡ true → account s (c ∷ cs)
+      ≡ withReply (exec s c .reply) (account (exec s c .state) cs)
   unfolding account withReply repliesOn after
   account-own s c cs e = rw e
 
@@ -64,5 +65,6 @@ module _ (g : Geometry) (k : ℕ) (r : Row) where
       (λ e. purge-other c cs s t e
       (purge cs (exec s c .state) t (exec-on g k r s o c) q (exec-other g k r s o c (eqb-false (c .number) k e) ∙ v)))
 
-  pub same-account : (s t : State) (cs ds : List Request) → On g k r s → On g k r t → shareOf g k r s ≡ shareOf g k r t → callsOn k cs ≡ callsOn k ds → account s cs ≡ account t ds
+  pub same-account : (s t : State) (cs ds : List Request) → On g k r s → On g k r t → shareOf g k r s ≡ shareOf g k r t → callsOn k cs ≡ callsOn k ds
+      → account s cs ≡ account t ds
   same-account s t cs ds o q v e = purge cs s s o o refl ∙ ap (account s) e ∙ sym (purge ds t s q o (sym v))

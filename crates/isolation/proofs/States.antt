@@ -22,11 +22,11 @@ use Rattle.isolation.specs.TwoRuns.{Accepted}
 
 -- ## Set-up's checks pass
 
-pub record Sound (s : State) : Type 0 where
+pub record Consistent (s : State) : Type 0 where
   pub check : setupRefusal s ≡ 0
   pub records : length (s .console .panes) ≡ 8
 
-pub valid : (s : State) → Sound s → Valid (s .console .geometry) (s .console .count) (s .console .rows) (length (s .screen)) (length (s .stores))
+pub valid : (s : State) → Consistent s → Valid (s .console .geometry) (s .console .count) (s .console .rows) (length (s .screen)) (length (s .stores))
 unfolding setupRefusal
 valid s d = checks-say _ _ _ _ _ (d .check)
 
@@ -34,15 +34,15 @@ valid s d = checks-say _ _ _ _ _ (d .check)
 pub columns-fit : (g : Geometry) → g .width * g .depth ≤ 16 * rowWords (g .width) (g .depth)
 columns-fit g = omega arith
 
-pub pane-fits : (s : State) → Sound s → (k : ℕ) → k < s .console .count → Fits (paneSurface (s .console .geometry) (rowOf s k)) (s .screen)
+pub pane-fits : (s : State) → Consistent s → (k : ℕ) → k < s .console .count → Fits (paneSurface (s .console .geometry) (rowOf s k)) (s .screen)
 unfolding rowOf paneSurface
 pane-fits s d k h =
     let v = valid s d in
     let g = s .console .geometry in
     record {
       depth = v .depth;
-      right = omega (arith, mul-le-mul-right (g .depth) (v .right k h), columns-fit g);
-      long = omega (arith, v .long, mul-le-mul-right (rowWords (g .width) (g .depth)) (v .bottom k h));
+      right = omega (arith, mul-le-mul-right (g .depth) (v .rectangle k h .right), columns-fit g);
+      long = omega (arith, v .long, mul-le-mul-right (rowWords (g .width) (g .depth)) (v .rectangle k h .bottom));
     }
 
 -- ## What no call changes: geometry, table and the buffers' lengths
@@ -85,21 +85,21 @@ module _ (g : Geometry) (k : ℕ) (r : Row) where
 
   -- the pane is in a state
   pub record On (s : State) : Type 0 where
-    pub sound : Sound s
+    pub consistent : Consistent s
     pub here : k < s .console .count
     pub geometry : s .console .geometry ≡ g
     pub row : rowOf s k ≡ r
 
-  pub on-stays : (s t : State) → Sound t → Stays s t → On s → On t
+  pub on-stays : (s t : State) → Consistent t → Stays s t → On s → On t
   on-stays s t d a o = record {
-    sound = d;
+    consistent = d;
     here = subst (λ (n : ℕ). k < n) (sym (a .count)) (o .here);
     geometry = a .geometry ∙ o .geometry;
     row = stays-row s t a k ∙ o .row;
   }
 
   pub on-fits : (s : State) → On s → Fits (paneSurface g r) (s .screen)
-  on-fits s o = rw (← o .geometry, ← o .row) (pane-fits s (o .sound) k (o .here))
+  on-fits s o = rw (← o .geometry, ← o .row) (pane-fits s (o .consistent) k (o .here))
 
 -- ## What set-up leaves
 
@@ -125,6 +125,6 @@ pub begun-stays : (a : State) → Stays a (begun a)
 unfolding begun
 begun-stays a = record { geometry = refl; count = refl; rows = refl; screen = refl; stores = refl }
 
-pub begun-sound : (a : State) → Accepted a → Sound (begun a)
+pub begun-consistent : (a : State) → Accepted a → Consistent (begun a)
 unfolding begun
-begun-sound a h = record { check = stays-refusal a (begun a) (begun-stays a) ∙ accepted-check a h; records = refl }
+begun-consistent a h = record { check = stays-refusal a (begun a) (begun-stays a) ∙ accepted-check a h; records = refl }

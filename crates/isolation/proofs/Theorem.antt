@@ -8,7 +8,7 @@ use Rattle.model.specs.Bitmaps.{paneSurface, pixels}
 use Rattle.model.specs.Calls.{State, Request, rowOf, recordOf, setUp}
 use Rattle.model.proofs.PixelLaws.{inside-of, pixels-in, same-pixels}
 use Rattle.isolation.specs.TwoRuns.{after, SamePixels, storeIn, Accepted, TwoRuns, Alike, Isolation}
-use Rattle.isolation.proofs.States.{Stays, shareOf, On, begun, setUp-begun, begun-stays, begun-sound}
+use Rattle.isolation.proofs.States.{Stays, shareOf, On, begun, setUp-begun, begun-stays, begun-consistent}
 use Rattle.isolation.proofs.Purge.{Account, account, same-account}
 use Rattle.isolation.proofs.Bits.{Held, held-after}
 
@@ -24,7 +24,7 @@ shown-of g r s t h = same-pixels (paneSurface g r) s t λ x y a b.
 module _ (g : Geometry) (k : ℕ) (r : Row) where
   on-setUp : (a : State) → Accepted a → k < a .console .count → a .console .geometry ≡ g → rowOf a k ≡ r → On g k r (setUp a .state)
   unfolding begun rowOf
-  on-setUp a h n e f = subst (On g k r) (sym (setUp-begun a h)) (record { sound = begun-sound a h; here = n; geometry = e; row = f })
+  on-setUp a h n e f = subst (On g k r) (sym (setUp-begun a h)) (record { consistent = begun-consistent a h; here = n; geometry = e; row = f })
 
   share-setUp : (a b : State) (cs ds : List Request) → TwoRuns g k r a b cs ds → shareOf g k r (setUp a .state) ≡ shareOf g k r (setUp b .state)
   unfolding begun shareOf storeIn recordOf
@@ -54,7 +54,7 @@ module _ (g : Geometry) (k : ℕ) (r : Row) where
 held : (a : State) (cs : List Request) → Accepted a → Held a (after (setUp a .state) cs)
 unfolding begun
 held a cs h = held-after a cs (setUp a .state) (subst (Held a) (sym (setUp-begun a h))
-    (record { sound = begun-sound a h; stays = begun-stays a; screen = λ n gap. refl; stores = λ n gap. refl }))
+    (record { consistent = begun-consistent a h; stays = begun-stays a; screen = λ n gap. refl; stores = λ n gap. refl }))
 
 -- beyond the demand: geometry, table and the buffers' lengths are those lent to set-up
 pub table-kept : (a : State) (cs : List Request) → Accepted a → Stays a (after (setUp a .state) cs)

@@ -1,8 +1,8 @@
--- An example, worked out by hand: two consoles that differ in their number of rows, the lengths of their buffers and what stands beside pane 0,
--- and two lists with the same calls on it, refused ones among them, and other calls between.
---
--- The screen is 6 by 2 at four bits a pixel. A row is two words, low byte first: columns 0 to 3 are the digits of the first word, columns 4
--- and 5 the first two digits of the second, whose other two are no pixel. So a row's byte 0 holds columns 2 and 3, its byte 1 columns 0 and 1.
+-- An example, worked out by hand: two consoles that differ in their number of rows, the lengths of their
+-- buffers and what stands beside pane 0, and two lists with the same calls on it, refused ones among them,
+-- and other calls between. The screen is 6 by 2 at four bits a pixel. A row is two words, low byte first:
+-- columns 0 to 3 are the digits of the first word, columns 4 and 5 the first two digits of the second, whose
+-- other two are no pixel. So a row's byte 0 holds columns 2 and 3, its byte 1 columns 0 and 1.
 use mathlib.Core.Path.{_≡_}
 use mathlib.Core.List.{List, [], _∷_, _++_}
 use Prim.Native.Nat.{ℕ}
@@ -51,7 +51,8 @@ second = record {
 
 -- ## Two lists
 
--- DEF_BITMAP the pane, DEF_COLORS with a foreground word, REL_MOV (−2,0), LINE (9,0): row 0, from before the pane to past it
+-- DEF_BITMAP the pane, DEF_COLORS with a foreground word, REL_MOV (−2,0), LINE (9,0): row 0, from before the
+-- pane to past it
 abbrev pub lineAcross : ℕ → ℕ → ℕ → ℕ → List ℕ
 lineAcross xmax ymax low high =
     0 ∷ 0x1A ∷ 0 ∷ 0 ∷ 0x20 ∷ 0 ∷ xmax ∷ 0 ∷ ymax ∷ 0 ∷ 4 ∷ 0
@@ -65,21 +66,21 @@ abbrev pub end : List ℕ
 end = 1 ∷ 3 ∷ []
 
 -- 1234 hex gives column c of a word its digit c: pane 0 draws 2 and 3
-abbrev pub drawing : List ℕ
-drawing = lineAcross 1 1 0x34 0x12 ++ (copyDown ++ end)
+abbrev pub drawingList : List ℕ
+drawingList = lineAcross 1 1 0x34 0x12 ++ (copyDown ++ end)
 
 abbrev pub firstCalls : List Request
 firstCalls =
-    on 0 (put 0 drawing) ∷ on 1 (put 0 (lineAcross 1 0 0xCD 0xAB ++ end)) ∷ on 0 (start 0) ∷ on 1 (start 0) ∷ on 1 (run 9)
-    ∷ on 0 (run 4) ∷ on 5 look ∷ on 0 (start 1) ∷ on 0 (pixel 0 0) ∷ on 0 (run 9) ∷ on 0 (pixel 1 1) ∷ on 0 (pixel 2 0)
-    ∷ on 1 clear ∷ on 0 (peek 48) ∷ on 0 (run 1) ∷ on 0 look ∷ []
+    on 0 (put 0 drawingList) ∷ on 1 (put 0 (lineAcross 1 0 0xCD 0xAB ++ end)) ∷ on 0 (start 0) ∷ on 1 (start 0)
+    ∷ on 1 (run 9) ∷ on 0 (run 4) ∷ on 5 look ∷ on 0 (start 1) ∷ on 0 (pixel 0 0) ∷ on 0 (run 9)
+    ∷ on 0 (pixel 1 1) ∷ on 0 (pixel 2 0) ∷ on 1 clear ∷ on 0 (peek 48) ∷ on 0 (run 1) ∷ on 0 look ∷ []
 
 abbrev pub secondCalls : List Request
 secondCalls =
-    on 2 (put 0 (0 ∷ 0 ∷ [])) ∷ on 2 (start 0) ∷ on 0 (put 0 drawing) ∷ on 2 (run 3) ∷ on 2 (put 1 (4 ∷ 4 ∷ [])) ∷ on 0 (start 0)
-    ∷ on 0 (run 4) ∷ on 0 (start 1) ∷ on 1 (put 0 (lineAcross 2 0 0xCD 0xAB ++ end)) ∷ on 1 (start 0) ∷ on 1 (run 3)
-    ∷ on 0 (pixel 0 0) ∷ on 0 (run 9) ∷ on 1 (run 9) ∷ on 0 (pixel 1 1) ∷ on 0 (pixel 2 0) ∷ on 7 clear ∷ on 0 (peek 48)
-    ∷ on 0 (run 1) ∷ on 1 (peek 32) ∷ on 0 look ∷ []
+    on 2 (put 0 (0 ∷ 0 ∷ [])) ∷ on 2 (start 0) ∷ on 0 (put 0 drawingList) ∷ on 2 (run 3) ∷ on 2 (put 1 (4 ∷ 4 ∷ []))
+    ∷ on 0 (start 0) ∷ on 0 (run 4) ∷ on 0 (start 1) ∷ on 1 (put 0 (lineAcross 2 0 0xCD 0xAB ++ end))
+    ∷ on 1 (start 0) ∷ on 1 (run 3) ∷ on 0 (pixel 0 0) ∷ on 0 (run 9) ∷ on 1 (run 9) ∷ on 0 (pixel 1 1)
+    ∷ on 0 (pixel 2 0) ∷ on 7 clear ∷ on 0 (peek 48) ∷ on 0 (run 1) ∷ on 1 (peek 32) ∷ on 0 look ∷ []
 
 -- ## What comes of it
 
@@ -88,7 +89,8 @@ abbrev pub replies : List Response
 replies =
     -- put, start, run: four commands, status 1, fault 0
     acceptedWith [] ∷ acceptedWith [] ∷ acceptedWith (natural 4 ∷ natural 1 ∷ natural 0 ∷ [])
-    -- start at an odd address, pixel, run: two commands, ended; pixels in and outside the pane, peek past the end, run at status 2
+    -- start at an odd address, pixel, run: two commands, ended; pixels in and outside the pane, peek past the
+    -- end, run at status 2
     ∷ refusedWith 3 ∷ acceptedWith (natural 2 ∷ []) ∷ acceptedWith (natural 2 ∷ natural 2 ∷ natural 0 ∷ [])
     ∷ acceptedWith (natural 3 ∷ []) ∷ refusedWith 5 ∷ refusedWith 2 ∷ refusedWith 4
     -- look: ended, no fault, pointer 2E hex, position (1,1), no flag
@@ -99,9 +101,12 @@ pub record Worked : Type 0 where
   pub first-replies : repliesOn 0 (setUp first .state) firstCalls ≡ replies
   pub second-replies : repliesOn 0 (setUp second .state) secondCalls ≡ replies
   -- row 0 is 5 2 3 D, A 5 and row 1 is 5 2 3 5, 5 5: pane 1 drew D and A of ABCD hex
-  pub first-screen : after (setUp first .state) firstCalls .screen ≡ 0x3D ∷ 0x52 ∷ 0x55 ∷ 0xA5 ∷ 0x35 ∷ 0x52 ∷ 0x55 ∷ 0x55 ∷ []
+  pub first-screen : after (setUp first .state) firstCalls .screen
+      ≡ 0x3D ∷ 0x52 ∷ 0x55 ∷ 0xA5 ∷ 0x35 ∷ 0x52 ∷ 0x55 ∷ 0x55 ∷ []
   -- row 0 is 0 2 3 F, F F and row 1 is 0 2 3 D, A B: pane 1 drew D, A and B; pane 2 faulted
-  pub second-screen : after (setUp second .state) secondCalls .screen ≡ 0x3F ∷ 0x02 ∷ 0xFF ∷ 0xFF ∷ 0x3D ∷ 0x02 ∷ 0x00 ∷ 0xAB ∷ 0x99 ∷ []
-  -- no pane has the lowest bit of column 0 of row 0, in the byte that holds column 1, nor that of byte 48, between the two stores
+  pub second-screen : after (setUp second .state) secondCalls .screen
+      ≡ 0x3F ∷ 0x02 ∷ 0xFF ∷ 0xFF ∷ 0x3D ∷ 0x02 ∷ 0x00 ∷ 0xAB ∷ 0x99 ∷ []
+  -- no pane has the lowest bit of column 0 of row 0, in the byte that holds column 1, nor that of byte 48,
+  -- between the two stores
   pub bit-alone : InNoPixels first 12
   pub byte-alone : InNoStore first 384

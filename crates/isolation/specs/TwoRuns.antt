@@ -1,13 +1,13 @@
--- Demand 3, over whole lists of calls and over exec, the definition that every call's contract cites:
---
--- "Set-up accepts two consoles of equal screen size and depth. One pane has the same number and table row in both, and its pixels and store
--- begin equal. Each console then takes a list of the calls put, start, run, look, pixel, peek and clear, with any pane numbers, refused calls
--- included. Each call gets the record and buffers that the one before left, the first those that set-up left. For every two such lists with
--- the same calls on that pane, in the same order, whatever the other calls put, drew or read, each call on it gets the same reply in both
--- runs, and after the lists its pixels, store and record are the same. And after every such list on any console that set-up accepted, each
--- bit of both buffers that is in no pane's pixels or store has its first value."
---
--- Paper 01, "For those who test a delivery", fixes the words; it is quoted where a definition states it.
+-- Demand 3, over whole lists of calls and over exec, the definition that every call's contract cites: "Set-up
+-- accepts two consoles of equal screen size and depth. One pane has the same number and table row in both,
+-- and its pixels and store begin equal. Each console then takes a list of the calls put, start, run, look,
+-- pixel, peek and clear, with any pane numbers, refused calls included. Each call gets the record and buffers
+-- that the one before left, the first those that set-up left. For every two such lists with the same calls on
+-- that pane, in the same order, whatever the other calls put, drew or read, each call on it gets the same
+-- reply in both runs, and after the lists its pixels, store and record are the same. And after every such
+-- list on any console that set-up accepted, each bit of both buffers that is in no pane's pixels or store has
+-- its first value." Paper 01, "For those who test a delivery", fixes the words; it is quoted where a
+-- definition states it.
 use mathlib.Core.Path.{_≡_}
 use mathlib.Core.Bool.{Bool, true, false}
 use mathlib.Core.List.{List, [], _∷_}
@@ -22,9 +22,11 @@ use Rattle.model.specs.Calls.{State, Request, exec, setUp, rowOf, recordOf, par
 
 -- ## Whole lists of calls
 
--- A Request is one "of the calls put, start, run, look, pixel, peek and clear, with any pane numbers, refused calls included"; exec does it or refuses it.
+-- A Request is one "of the calls put, start, run, look, pixel, peek and clear, with any pane numbers, refused
+-- calls included"; exec does it or refuses it.
 
--- "Each call gets the record and buffers that the one before left": what a list of calls leaves, the first of them lent the state s
+-- "Each call gets the record and buffers that the one before left": what a list of calls leaves, the first of
+-- them lent the state s
 unfoldable pub after : State → List Request → State
 after s [] = s
 after s (c ∷ cs) = after (exec s c .state) cs
@@ -51,15 +53,17 @@ Accepted a = setUp a .reply ≡ acceptedWith []
 
 -- "A pane's pixels are all (x,y) below its width and height": two screens have the same values there
 unfoldable pub SamePixels : Geometry → Row → List ℕ → List ℕ → Type 0
-SamePixels g r s t = (x y : ℕ) → x < r .width → y < r .height → pixels (paneSurface g r) s x y ≡ pixels (paneSurface g r) t x y
+SamePixels g r s t =
+    (x y : ℕ) → x < r .width → y < r .height → pixels (paneSurface g r) s x y ≡ pixels (paneSurface g r) t x y
 
 -- "its store the bytes from store start over store length"
 unfoldable pub storeIn : Row → List ℕ → List ℕ
 storeIn r stores = part stores (r .start) (r .len)
 
--- What the sentence supposes: two consoles a and b as lent to set-up ("Begin and first mean as lent to set-up"), the lists cs and ds that they
--- then take, and one pane, of number k and row r, on screens of geometry g. "The other rows, their number and the buffers' lengths may
--- differ", and so may all other calls: nothing is said of them.
+-- What the sentence supposes: two consoles a and b as lent to set-up ("Begin and first mean as lent to
+-- set-up"), the lists cs and ds that they then take, and one pane, of number k and row r, on screens of
+-- geometry g. "The other rows, their number and the buffers' lengths may differ", and so may all other calls:
+-- nothing is said of them.
 pub record TwoRuns (g : Geometry) (k : ℕ) (r : Row) (a b : State) (cs ds : List Request) : Type 0 where
   -- "Set-up accepts two consoles"
   pub accepts-a : Accepted a
@@ -67,8 +71,8 @@ pub record TwoRuns (g : Geometry) (k : ℕ) (r : Row) (a b : State) (cs ds : Lis
   -- "of equal screen size and depth"
   pub geometry-a : a .console .geometry ≡ g
   pub geometry-b : b .console .geometry ≡ g
-  -- "One pane has the same number .. in both": "The panes are the rows of each console's table; a call whose number has no row there is on no
-  -- pane"
+  -- "One pane has the same number .. in both": "The panes are the rows of each console's table; a call whose
+  -- number has no row there is on no pane"
   pub number-a : k < a .console .count
   pub number-b : k < b .console .count
   -- ".. and table row"
@@ -121,10 +125,13 @@ pub record Untouched (a : State) (cs : List Request) : Type 0 where
 
 -- ## The demand
 
--- For the code: each call of the console answers and leaves, refused or not, what exec says of the record and buffers that it was lent, and
--- set-up what setUp says (the contracts of the calls that crates/console/src/lib.rt names, without a requires). So a list of calls made on the code,
--- each lent what the one before left, goes through the states of `after` and gets the replies of `repliesOn`, and this record speaks of it.
+-- For the code: each call of the console answers and leaves, refused or not, what exec says of the record and
+-- buffers that it was lent, and set-up what setUp says (the contracts of the calls that
+-- crates/console/src/lib.rt names, without a requires). So a list of calls made on the code, each lent what
+-- the one before left, goes through the states of `after` and gets the replies of `repliesOn`, and this
+-- record speaks of it.
 pub record Isolation : Type 0 where
-  pub two-runs : (g : Geometry) (k : ℕ) (r : Row) (a b : State) (cs ds : List Request) → TwoRuns g k r a b cs ds → Alike g k r a b cs ds
+  pub two-runs : (g : Geometry) (k : ℕ) (r : Row) (a b : State) (cs ds : List Request) → TwoRuns g k r a b cs ds
+      → Alike g k r a b cs ds
   -- "And after every such list on any console that set-up accepted"
   pub untouched : (a : State) (cs : List Request) → Accepted a → Untouched a cs

@@ -6,7 +6,7 @@ use native.Mathlib.Omega.{arith}
 use borrow.Author.Tests.{ltb-false, eq-eqb, ne-eqb}
 use lib.ListN.{length}
 use lib.Dec.{ltb, eqb}
-use Rattle.model.specs.Numbers.{statusRunning}
+use Rattle.model.specs.Numbers.{statusRunning, refuseEnd}
 use Rattle.model.specs.declared.Geometry.{Geometry}
 use Rattle.model.specs.declared.Row.{Row}
 use Rattle.model.specs.declared.Bitmap.{Bitmap}
@@ -23,7 +23,8 @@ use Rattle.model.specs.Faults.{faultOf}
 use Rattle.model.specs.Effects.{Effect, becomes, draws}
 use Rattle.model.specs.Steps.{Plan, onStore, planOf, judged, obey, step}
 use Rattle.model.specs.Runs.{Finish, idle, carried, stepped, follow, runs}
-use Rattle.model.specs.Calls.{Call, put, start, run, look, pixel, peek, clear, Outcome, outcome, ran, ownRefusal, onPane, State, Request, refusal, accepted, refused, exec}
+use Rattle.model.specs.Calls.{Call, put, start, run, look, pixel, peek, clear, Outcome, outcome, ran, ownRefusal, onPane, State, Request, refusal}
+use Rattle.model.specs.Calls.{accepted, refused, exec}
 use Rattle.model.proofs.Decisions.{cond-none, cond-true, cond-false, cond-ind, cond-rel}
 use Rattle.model.proofs.FieldLaws.{length-put}
 use Rattle.model.proofs.PartLaws.{length-inPart}
@@ -102,7 +103,14 @@ module _ (g : Geometry) (r : Row) where
       → SameRan (follow rest (carried g r plan s)) (follow rest (carried g r plan′ t))
   unfolding follow Steady
   follow-agree rest ih plan plan′ q s t f h e = subst (λ (z : Plan). SameRan (follow rest (carried g r plan s)) (follow rest (carried g r z t))) q
-      (record { count = ap (λ (n : ℕ). plan .counted + n) (w .count); hits = ap (λ (n : ℕ). plan .hits + n) (w .hits); pane = w .pane; store = w .store; shown = w .shown })
+      (record {
+        count = ap (λ (n : ℕ). plan .counted + n) (w .count);
+        hits = ap (λ (n : ℕ). plan .hits + n) (w .hits);
+        pane = w .pane;
+        store = w .store;
+        shown =
+            w .shown;
+      })
     where
       cs : List Change
       cs = plan .drawn
@@ -133,10 +141,11 @@ module _ (g : Geometry) (r : Row) (p : Pane) where
   local-screen : (a : Response) (q : Pane) (s store new : List ℕ) → length new ≡ length store → Local s store (outcome a q s new)
   local-screen a q s store new e = record { size = e; frame = framed-refl (paneSurface g r) s }
 
-  pub onPane-local : (s store : List ℕ) → Fits (paneSurface g r) s → length store ≡ r .len → (k : Call) → ownRefusal r p k ≡ 0 → Local s store (onPane g r p s store k)
+  pub onPane-local : (s store : List ℕ) → Fits (paneSurface g r) s → length store ≡ r .len → (k : Call) → ownRefusal r p k ≡ 0
+      → Local s store (onPane g r p s store k)
   unfolding onPane ownRefusal
   onPane-local s store f m (put a bytes) e =
-      let h = ltb-false (r .len) (a + length bytes) (cond-none (ltb (r .len) (a + length bytes)) 1 0 e .0) in
+      let h = ltb-false (r .len) (a + length bytes) (cond-none (ltb (r .len) (a + length bytes)) refuseEnd 0 tt e .0) in
       local-screen _ _ s store _ (length-inPart store a (length bytes) bytes refl (omega arith))
   onPane-local s store f m (start a) e = local-screen _ _ s store store refl
   onPane-local s store f m (run n) e = record { size = runs-length g r n p s store; frame = runs-frame g r n p s store f }
@@ -152,27 +161,31 @@ module _ (g : Geometry) (r : Row) (p : Pane) where
     pub store : a .store ≡ b .store
     pub shown : pixels (paneSurface g r) (a .screen) ≡ pixels (paneSurface g r) (b .screen)
 
-  module _ (s t store : List ℕ) (f : Fits (paneSurface g r) s) (h : Fits (paneSurface g r) t) (e : pixels (paneSurface g r) s ≡ pixels (paneSurface g r) t) where
-    same-screen : (a : Response) (q : Pane) (new : List ℕ) → SameOutcome (outcome a q s new) (outcome a q t new)
-    same-screen a q new = record { reply = refl; pane = refl; store = refl; shown = e }
+  module _ (s t store : List ℕ) (f : Fits (paneSurface g r) s) (h : Fits (paneSurface g r) t) (e : pixels (paneSurface g r) s ≡ pixels (paneSurface g r) t)
+    where
+      same-screen : (a : Response) (q : Pane) (new : List ℕ) → SameOutcome (outcome a q s new) (outcome a q t new)
+      same-screen a q new = record { reply = refl; pane = refl; store = refl; shown = e }
 
-    pub onPane-agree : (k : Call) → SameOutcome (onPane g r p s store k) (onPane g r p t store k)
-    unfolding onPane Steady
-    onPane-agree (put a bytes) = same-screen _ _ _
-    onPane-agree (start a) = same-screen _ _ _
-    onPane-agree (run n) = go (runs-agree g r n p s t store f h e)
-      where
-        go : SameRan g r (runs g r n p s store) (runs g r n p t store) → SameOutcome (ran (runs g r n p s store)) (ran (runs g r n p t store))
-        go w = record {
-          reply = ap₂ (λ (c : ℕ) (q : Pane). acceptedWith (ranValues (record { commands = c; status = q .progress .status; fault = q .progress .fault }))) (w .count) (w .pane);
-          pane = w .pane;
-          store = w .store;
-          shown = w .shown;
-        }
-    onPane-agree look = same-screen _ _ _
-    onPane-agree (pixel x y) = record { reply = ap (λ (see : ℕ → ℕ → ℕ). acceptedWith (natural (see x y) ∷ [])) e; pane = refl; store = refl; shown = e }
-    onPane-agree (peek a) = same-screen _ _ _
-    onPane-agree clear = same-screen _ _ _
+      pub onPane-agree : (k : Call) → SameOutcome (onPane g r p s store k) (onPane g r p t store k)
+      unfolding onPane Steady
+      onPane-agree (put a bytes) = same-screen _ _ _
+      onPane-agree (start a) = same-screen _ _ _
+      onPane-agree (run n) = go (runs-agree g r n p s t store f h e)
+        where
+          go : SameRan g r (runs g r n p s store) (runs g r n p t store) → SameOutcome (ran (runs g r n p s store)) (ran (runs g r n p t store))
+          go w = record {
+            reply =
+                ap₂ (λ (c : ℕ) (q : Pane). acceptedWith (ranValues (record { commands = c; status = q .progress .status; fault = q .progress .fault })))
+                (w .count)
+                (w .pane);
+            pane = w .pane;
+            store = w .store;
+            shown = w .shown;
+          }
+      onPane-agree look = same-screen _ _ _
+      onPane-agree (pixel x y) = record { reply = ap (λ (see : ℕ → ℕ → ℕ). acceptedWith (natural (see x y) ∷ [])) e; pane = refl; store = refl; shown = e }
+      onPane-agree (peek a) = same-screen _ _ _
+      onPane-agree clear = same-screen _ _ _
 
 -- ## A call is refused, or accepted
 

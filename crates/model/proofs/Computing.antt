@@ -1,26 +1,33 @@
 -- A theorem that is to compute says `unfolding figuring` or `unfolding machine`: to unfold a definition is to unfold what its own line names.
 use Rattle.model.specs.Ranges.{anyBelow, listed, joined}
 use Rattle.model.specs.Words.{bit, num, fieldAt, splice, putField}
-use Rattle.model.specs.Bitmaps.{gridBit, placeBit, placeShift, inside, pixels, paneSurface, storeSurface, surfaceOf, paneBitmapBad, storeBitmapBad, ruleBroken, touches}
+use Rattle.model.specs.Bitmaps.{gridBit, placeBit, placeShift, inside, pixels, paneSurface, storeSurface, surfaceOf, paneBitmapBad, storeBitmapBad}
+use Rattle.model.specs.Bitmaps.{ruleBroken, touches}
 use Rattle.model.specs.Pixels.{blend, change, changes}
 use Rattle.model.specs.Dots.{visible, hits, changesOf}
 use Rattle.model.specs.Lines.{lineDots, line, pointAt, pairsAt, polyline, alongX, alongY, walk, visited, once, patterned, rectangle, triplesAt, scanLines}
 use Rattle.model.specs.Copies.{seen, copyDots, copy, blockBad, blockTouches, sharing}
-use Rattle.model.specs.Glyphs.{selector, descriptor, cellBit, turned, glyphDots, advance, onPath, passed, string}
-use Rattle.model.specs.Commands.{shapeOf, commandOf, fetch, decode}
+use Rattle.model.specs.Glyphs.{selector, descriptor, cellBit, rotated, glyphDots, advance, onPath, passed, string}
+use Rattle.model.specs.Commands.{opcodeOf, commandOf, fetch, decode}
 use Rattle.model.specs.Faults.{clipOutside, arrayBad, stringBad, descriptorsBad, faultOf}
 use Rattle.model.specs.Effects.{effectOf}
 use Rattle.model.specs.Steps.{madeBy, planOf, judged, obey, step}
 use Rattle.model.specs.Runs.{stepped, follow, runs}
 use Rattle.model.specs.Setup.{geometryBad, rectangleBad, storeBad, sharePixel, shareByte, checks, progressBad, paneBad}
-use Rattle.model.specs.Calls.{part, inPart, ownRefusal, onPane, rowOf, recordOf, storeOf, setupRefusal, callChecks, refusal, withPane, accepted, exec, setUp}
+use Rattle.model.specs.Calls.{part, inPart, ownRefusal, onPane, rowOf, recordOf, storeOf, setupRefusal, callChecks, refusal, withPane, accepted, exec}
+use Rattle.model.specs.Calls.{setUp}
 
 -- drawing
 unfoldable pub figuring : Unit {0}
-unfolding anyBelow listed joined bit num fieldAt splice putField gridBit placeBit placeShift inside pixels paneSurface storeSurface surfaceOf paneBitmapBad storeBitmapBad ruleBroken touches blend change changes visible hits changesOf lineDots line pointAt pairsAt polyline alongX alongY walk visited once patterned rectangle triplesAt scanLines seen copyDots copy blockBad blockTouches sharing selector descriptor cellBit turned glyphDots advance onPath passed string
+unfolding anyBelow listed joined bit num fieldAt splice putField gridBit placeBit placeShift inside pixels paneSurface storeSurface surfaceOf paneBitmapBad
+    storeBitmapBad ruleBroken touches blend change changes visible hits changesOf lineDots line pointAt pairsAt polyline alongX alongY walk visited once
+    patterned rectangle triplesAt scanLines seen copyDots copy blockBad blockTouches sharing selector descriptor cellBit rotated glyphDots advance onPath passed
+    string
 figuring = tt
 
 -- and everything else
 unfoldable pub machine : Unit {0}
-unfolding figuring shapeOf commandOf fetch decode clipOutside arrayBad stringBad descriptorsBad faultOf effectOf madeBy planOf judged obey step stepped follow runs geometryBad rectangleBad storeBad sharePixel shareByte checks progressBad paneBad part inPart ownRefusal onPane rowOf recordOf storeOf setupRefusal callChecks refusal withPane accepted exec setUp
+unfolding figuring opcodeOf commandOf fetch decode clipOutside arrayBad stringBad descriptorsBad faultOf effectOf madeBy planOf judged obey step stepped follow
+    runs geometryBad rectangleBad storeBad sharePixel shareByte checks progressBad paneBad part inPart ownRefusal onPane rowOf recordOf storeOf setupRefusal
+    callChecks refusal withPane accepted exec setUp
 machine = tt

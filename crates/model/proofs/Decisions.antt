@@ -2,9 +2,9 @@
 use mathlib.Core.Path.{_≡_, refl, sym, _∙_}
 use mathlib.Core.Logic.{_⊎_, inl, inr}
 use mathlib.Core.Bool.{Bool, true, false, cond, _&&_, _||_}
-use Prim.Native.Nat.{ℕ, suc}
+use Prim.Native.Nat.{ℕ, zero, suc}
 use native.Mathlib.Omega.{arith}
-use lib.Dec.{T, eqb}
+use lib.Dec.{T, ltb, eqb}
 use borrow.Author.Tests.{eqb-true, eqb-false}
 use Rattle.model.specs.Ranges.{orElse}
 
@@ -32,6 +32,17 @@ pub either-true : (a b : Bool) → (a || b) ≡ true → (a ≡ true) ⊎ (b ≡
 either-true true b e = inl refl
 either-true false b e = inr e
 
+pub and-false : (a b : Bool) → b ≡ false → (a && b) ≡ false
+and-false true b e = e
+and-false false b e = refl
+
+pub and-left : (a b : Bool) → a ≡ false → (a && b) ≡ false
+and-left a b e = rw e
+
+pub or-true : (a b : Bool) → b ≡ true → (a || b) ≡ true
+or-true true b e = refl
+or-true false b e = e
+
 -- ## cond
 
 pub cond-true {ℓ} : {A : Type ℓ} {t : Bool} (a b : A) → t ≡ true → cond t a b ≡ a
@@ -48,10 +59,11 @@ pub cond-rel {ℓ κ} : {A : Type ℓ} (R : A → A → Type κ) (t : Bool) (a b
 cond-rel R true a b a′ b′ f g = f
 cond-rel R false a b a′ b′ f g = g
 
--- a number that a test gives, where there is none
-pub cond-none : (t : Bool) (n m : ℕ) → cond t (suc n) m ≡ 0 → (t ≡ false) × (m ≡ 0)
-cond-none true n m e = absurd (omega arith)
-cond-none false n m e = (refl, e)
+-- the number of a refusal or fault that a test gives, where there is none; numbers are above 0, which `tt` shows of each
+pub cond-none : (t : Bool) (n m : ℕ) → T (ltb 0 n) → cond t n m ≡ 0 → (t ≡ false) × (m ≡ 0)
+cond-none true zero m h e = absurd h
+cond-none true (suc n) m h e = absurd (omega arith)
+cond-none false n m h e = (refl, e)
 
 -- ## The first refusal that applies
 

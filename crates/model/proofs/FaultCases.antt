@@ -10,7 +10,8 @@ use Rattle.model.specs.Record.{Pane}
 use Rattle.model.specs.Setup.{paneAt}
 use Rattle.model.specs.Calls.{State, Answer, on, start, run, exec}
 use Rattle.model.proofs.Computing.{machine}
-use Rattle.model.proofs.Listings.{minus, thePane, link, call, return, defBitmap, defClipRect, wordFont, byteFont, point, line, rect, polyline, scanLines, bitBlt, bitBltM, char, bytes, listing}
+use Rattle.model.proofs.Listings.{minus, thePane, link, call, return, defBitmap, defClipRect, wordFont, byteFont, point, line, rect, polyline, scanLines}
+use Rattle.model.proofs.Listings.{bitBlt, bitBltM, char, bytes, listing}
 use Rattle.model.proofs.Scripts.{Piece, piece, laid, script, values}
 
 -- what a command comes to

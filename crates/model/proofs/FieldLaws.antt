@@ -1,7 +1,7 @@
 -- The three laws of a field: what a write keeps, what it leaves, and that a field is its bits.
 use mathlib.Core.Path.{_≡_, refl, sym, ap, _∙_, subst}
 use mathlib.Core.Logic.{_⊎_, inl, inr}
-use mathlib.Core.Bool.{Bool, true, false, cond, _&&_}
+use mathlib.Core.Bool.{false, cond}
 use mathlib.Core.List.{List}
 use Prim.Native.Nat.{ℕ, _+_, _-_, _/_, _%_, _≤_, _<_}
 use native.Mathlib.Omega.{arith}
@@ -12,7 +12,7 @@ use lib.Seq.{getD-set-same, getD-set-other}
 use Rattle.model.specs.Words.{bit, num, within, bitAt, fieldAt, splice, putField}
 use Rattle.model.proofs.BitLaws.{bit-num, num-cong}
 use borrow.Author.Tests.{lt-ltb, le-leb, lt-leb, le-ltb}
-use Rattle.model.proofs.Decisions.{both-of, cond-true, cond-false}
+use Rattle.model.proofs.Decisions.{both-of, and-false, cond-true, cond-false}
 
 -- ## A byte
 
@@ -30,11 +30,7 @@ splice-out x k b v i h o =
   where
     off : (i < k) ⊎ (k + b ≤ i) → within k b i ≡ false
     off (inl l) = rw (lt-leb k i l) refl
-    off (inr l) = and-no (leb k i) (ltb i (k + b)) (le-ltb i (k + b) l)
-      where
-        and-no : (s t : Bool) → t ≡ false → (s && t) ≡ false
-        and-no true t e = e
-        and-no false t e = refl
+    off (inr l) = and-false (leb k i) (ltb i (k + b)) (le-ltb i (k + b) l)
 
 -- ## A buffer
 

@@ -1,7 +1,7 @@
 -- RECT's outline in closed form: the walk with what was visited passed over is four sides with no corner twice.
 use mathlib.Core.Path.{_≡_, refl, sym, ap, ap₂, _∙_, subst}
 use mathlib.Core.Logic.{_≢_, _⊎_, inl, inr}
-use mathlib.Core.Bool.{Bool, true, false, cond, _&&_, _||_}
+use mathlib.Core.Bool.{Bool, true, false, cond, _||_}
 use mathlib.Core.List.{List, [], _∷_, _++_, append-nil}
 use Prim.Native.Nat.{ℕ, zero, suc, _+_, _-_, _≤_, _<_}
 use native.Mathlib.Omega.{arith}
@@ -12,6 +12,7 @@ use Rattle.model.specs.Ranges.{listed}
 use Rattle.model.specs.Coordinates.{Place, at, offset, signAs, same, samePlace}
 use Rattle.model.specs.Dots.{keep}
 use Rattle.model.specs.Lines.{alongX, alongY, walk, visited, once}
+use Rattle.model.proofs.Decisions.{and-false, or-true}
 use Rattle.model.proofs.DotLaws.{listed-last}
 
 -- ## A list walked
@@ -39,10 +40,6 @@ once-take : (q : Place) (l seen : List Place) → visited q seen ≡ false → o
 unfolding once
 once-take q l seen e = rw e refl
 
-or-right : (s t : Bool) → t ≡ true → (s || t) ≡ true
-or-right true t e = refl
-or-right false t e = e
-
 or-left : (s t : Bool) → s ≡ true → (s || t) ≡ true
 or-left s t e = rw e refl
 
@@ -52,10 +49,11 @@ or-none s t e f = rw (e, f) refl
 still : (q : Place) (l seen : List Place) → visited q seen ≡ true → visited q (passed l seen) ≡ true
 unfolding visited passed
 still q [] seen e = e
-still q (r ∷ l) seen e = still q l (r ∷ seen) (or-right (samePlace q r) (visited q seen) e)
+still q (r ∷ l) seen e = still q l (r ∷ seen) (or-true (samePlace q r) (visited q seen) e)
 
 -- among the places of a list made from numbers
-among : (n i k : ℕ) (f : ℕ → Place) (q : Place) (seen : List Place) → i ≤ k → k < i + n → samePlace q (f k) ≡ true → visited q (passed (listed i n f) seen) ≡ true
+among : (n i k : ℕ) (f : ℕ → Place) (q : Place) (seen : List Place) → i ≤ k → k < i + n → samePlace q (f k) ≡ true → visited q (passed (listed i n f) seen)
+    ≡ true
 unfolding visited passed listed
 among zero i k f q seen h l e = absurd (omega arith)
 among (suc n) i k f q seen h l e = go (ℕ-discrete i k) (λ m. among n (suc i) k f q (f i ∷ seen) m (omega arith) e)
@@ -70,7 +68,8 @@ apart : (n i : ℕ) (f : ℕ → Place) (q : Place) (seen : List Place) → ((k 
 unfolding visited passed listed
 apart zero i f q seen h e = e
 apart (suc n) i f q seen h e =
-    apart n (suc i) f q (f i ∷ seen) (λ k l m. h k (omega arith) (omega arith)) (or-none (samePlace q (f i)) (visited q seen) (h i (omega arith) (omega arith)) e)
+    apart n (suc i) f q (f i ∷ seen) (λ k l m. h k (omega arith) (omega arith))
+    (or-none (samePlace q (f i)) (visited q seen) (h i (omega arith) (omega arith)) e)
 
 once-new : (n i : ℕ) (f : ℕ → Place) (seen : List Place) → ((k : ℕ) → i ≤ k → k < i + n → visited (f k) seen ≡ false)
     → ((k l : ℕ) → i ≤ k → k < i + n → i ≤ l → l < k → samePlace (f k) (f l) ≡ false) → once seen (listed i n f) ≡ listed i n f
@@ -80,7 +79,8 @@ once-new (suc n) i f seen h g =
     once-take (f i) (listed (suc i) n f) seen (h i (omega arith) (omega arith))
     ∙ ap {B = List Place} (λ r. f i ∷ r)
     (once-new n (suc i) f (f i ∷ seen)
-    (λ k l m. or-none (samePlace (f k) (f i)) (visited (f k) seen) (g k i (omega arith) (omega arith) (omega arith) (omega arith)) (h k (omega arith) (omega arith)))
+    (λ k l m. or-none (samePlace (f k) (f i)) (visited (f k) seen) (g k i (omega arith) (omega arith) (omega arith) (omega arith))
+    (h k (omega arith) (omega arith)))
     (λ k l a b c d. g k l (omega arith) (omega arith) (omega arith) d))
 
 once-old : (n i : ℕ) (f : ℕ → Place) (seen : List Place) → ((k : ℕ) → i ≤ k → k < i + n → visited (f k) seen ≡ true) → once seen (listed i n f) ≡ []
@@ -88,7 +88,7 @@ unfolding once listed visited
 once-old zero i f seen h = refl
 once-old (suc n) i f seen h =
     once-skip (f i) (listed (suc i) n f) seen (h i (omega arith) (omega arith))
-    ∙ once-old n (suc i) f (f i ∷ seen) (λ k l m. or-right (samePlace (f k) (f i)) (visited (f k) seen) (h k (omega arith) (omega arith)))
+    ∙ once-old n (suc i) f (f i ∷ seen) (λ k l m. or-true (samePlace (f k) (f i)) (visited (f k) seen) (h k (omega arith) (omega arith)))
 
 -- ## Whole numbers
 
@@ -134,7 +134,7 @@ abs-neg (pos zero) = refl
 abs-neg (pos (suc n)) = refl
 abs-neg (negsuc n) = refl
 
-sub-le : (a b : ℕ) → b ≤ a → subℕ a b ≡ pos (a - b)
+pub sub-le : (a b : ℕ) → b ≤ a → subℕ a b ≡ pos (a - b)
 sub-le a b h = rw (lt-no a b h) refl
   where
     lt-no : (a b : ℕ) → b ≤ a → ltb a b ≡ false
@@ -152,7 +152,9 @@ back (pos (suc n)) (suc i) h = sub-le (suc n) (suc i) h
 back (negsuc n) i h = go (ℕ-discrete i (suc n))
   where
     go : Dec (i ≡ suc n) → subℕ i (suc n) ≡ negℤ (pos (suc n - i))
-    go (yes e) = sub-le i (suc n) (omega arith) ∙ (let z : i - suc n ≡ 0 = omega arith in let w : suc n - i ≡ 0 = omega arith in ap pos z ∙ sym (ap (λ (m : ℕ). negℤ (pos m)) w))
+    go (yes e) =
+        sub-le i (suc n) (omega arith) ∙ (let z : i - suc n ≡ 0 = omega arith in let w : suc n - i ≡ 0 = omega arith in ap pos z ∙ sym
+        (ap (λ (m : ℕ). negℤ (pos m)) w))
     go (no e) = let l : suc n - i ≡ suc (suc n - suc i) = omega arith in
         rw (is-true (ltb i (suc n)) (lt→ltb i (suc n) (omega arith))) (sym (ap (λ (m : ℕ). negℤ (pos m)) l))
 
@@ -161,7 +163,8 @@ back (negsuc n) i h = go (ℕ-discrete i (suc n))
 listed-cong : (n i : ℕ) (f g : ℕ → Place) → ((k : ℕ) → i ≤ k → k < i + n → f k ≡ g k) → listed i n f ≡ listed i n g
 unfolding listed
 listed-cong zero i f g h = refl
-listed-cong (suc n) i f g h = ap₂ {C = List Place} (λ x xs. x ∷ xs) (h i (omega arith) (omega arith)) (listed-cong n (suc i) f g λ k l m. h k (omega arith) (omega arith))
+listed-cong (suc n) i f g h =
+    ap₂ {C = List Place} (λ x xs. x ∷ xs) (h i (omega arith) (omega arith)) (listed-cong n (suc i) f g λ k l m. h k (omega arith) (omega arith))
 
 module _ (p : Place) (dx dy : ℤ) where
   a : ℕ
@@ -184,11 +187,7 @@ module _ (p : Place) (dx dy : ℤ) where
 
   spot-y : (i j k l : ℕ) → j ≢ l → samePlace (spot i j) (spot k l) ≡ false
   unfolding spot
-  spot-y i j k l n = and-no (same (p .x +ℤ signAs dx i) (p .x +ℤ signAs dx k)) _ (differ (p .y) dy j l n)
-    where
-      and-no : (s t : Bool) → t ≡ false → (s && t) ≡ false
-      and-no true t e = e
-      and-no false t e = refl
+  spot-y i j k l n = and-false (same (p .x +ℤ signAs dx i) (p .x +ℤ signAs dx k)) _ (differ (p .y) dy j l n)
 
   side1 : List Place
   side1 = listed 0 (suc a) (λ i. spot i 0)
@@ -212,18 +211,24 @@ module _ (p : Place) (dx dy : ℤ) where
       one : listed 0 (suc (natAbs dx)) (λ i. offset p (signAs dx i) (pos 0)) ≡ listed 0 (suc (natAbs dx)) (λ i. offset p (signAs dx i) (signAs dy 0))
       one = ap (λ z. listed 0 (suc (natAbs dx)) (λ i. offset p (signAs dx i) z)) (zero-sign dy)
 
-      two : listed 0 (suc (natAbs dy)) (λ i. offset (offset p dx (pos 0)) (pos 0) (signAs dy i)) ≡ listed 0 (suc (natAbs dy)) (λ j. offset p (signAs dx (natAbs dx)) (signAs dy j))
+      two : listed 0 (suc (natAbs dy)) (λ i. offset (offset p dx (pos 0)) (pos 0) (signAs dy i))
+          ≡ listed 0 (suc (natAbs dy)) (λ j. offset p (signAs dx (natAbs dx)) (signAs dy j))
       two = listed-cong _ 0 _ _ λ k l m. place-path
           (+ℤ-idr (p .x +ℤ dx) ∙ ap (λ z. p .x +ℤ z) (whole-sign dx))
           (ap (λ z. z +ℤ signAs dy k) (+ℤ-idr (p .y)))
 
-      three : listed 0 (suc (natAbs (negℤ dx))) (λ i. offset (offset p dx dy) (signAs (negℤ dx) i) (pos 0)) ≡ listed 0 (suc (natAbs dx)) (λ i. offset p (signAs dx (natAbs dx - i)) (signAs dy (natAbs dy)))
-      three = ap (λ (n : ℕ). listed 0 (suc n) (λ i. offset (offset p dx dy) (signAs (negℤ dx) i) (pos 0))) (abs-neg dx) ∙ listed-cong _ 0 _ _ λ k l m. place-path
+      three : listed 0 (suc (natAbs (negℤ dx))) (λ i. offset (offset p dx dy) (signAs (negℤ dx) i) (pos 0))
+          ≡ listed 0 (suc (natAbs dx)) (λ i. offset p (signAs dx (natAbs dx - i)) (signAs dy (natAbs dy)))
+      three =
+          ap (λ (n : ℕ). listed 0 (suc n) (λ i. offset (offset p dx dy) (signAs (negℤ dx) i) (pos 0))) (abs-neg dx) ∙ listed-cong _ 0 _ _ λ k l m. place-path
           (+ℤ-assoc (p .x) dx (signAs (negℤ dx) k) ∙ ap (λ z. p .x +ℤ z) (back dx k (omega arith)))
           (+ℤ-idr (p .y +ℤ dy) ∙ ap (λ z. p .y +ℤ z) (whole-sign dy))
 
-      four : listed 0 (suc (natAbs (negℤ dy))) (λ i. offset (offset p (pos 0) dy) (pos 0) (signAs (negℤ dy) i)) ≡ listed 0 (suc (natAbs dy)) (λ j. offset p (signAs dx 0) (signAs dy (natAbs dy - j)))
-      four = ap (λ (n : ℕ). listed 0 (suc n) (λ i. offset (offset p (pos 0) dy) (pos 0) (signAs (negℤ dy) i))) (abs-neg dy) ∙ listed-cong _ 0 _ _ λ k l m. place-path
+      four : listed 0 (suc (natAbs (negℤ dy))) (λ i. offset (offset p (pos 0) dy) (pos 0) (signAs (negℤ dy) i))
+          ≡ listed 0 (suc (natAbs dy)) (λ j. offset p (signAs dx 0) (signAs dy (natAbs dy - j)))
+      four =
+          ap (λ (n : ℕ). listed 0 (suc n) (λ i. offset (offset p (pos 0) dy) (pos 0) (signAs (negℤ dy) i))) (abs-neg dy)
+          ∙ listed-cong _ 0 _ _ λ k l m. place-path
           (+ℤ-idr (p .x +ℤ pos 0) ∙ ap (λ z. p .x +ℤ z) (zero-sign dx))
           (+ℤ-assoc (p .y) dy (signAs (negℤ dy) k) ∙ ap (λ z. p .y +ℤ z) (back dy k (omega arith)))
 
@@ -247,7 +252,8 @@ module _ (p : Place) (dx dy : ℤ) where
 
   within3 : (i j : ℕ) (seen : List Place) → i ≤ a → j ≡ b → visited (spot i j) (passed side3 seen) ≡ true
   unfolding side3
-  within3 i j seen h e = among (suc a) 0 (a - i) (λ i. spot (a - i) b) (spot i j) seen (omega arith) (omega arith) (spot-same i j (a - (a - i)) b (omega arith) e)
+  within3 i j seen h e =
+      among (suc a) 0 (a - i) (λ i. spot (a - i) b) (spot i j) seen (omega arith) (omega arith) (spot-same i j (a - (a - i)) b (omega arith) e)
 
   not3 : (i j : ℕ) (seen : List Place) → j ≢ b → visited (spot i j) seen ≡ false → visited (spot i j) (passed side3 seen) ≡ false
   unfolding side3
@@ -314,7 +320,7 @@ module _ (p : Place) (dx dy : ℤ) where
       end : once (passed (listed 1 (b - 1) f) s) (f (1 + (b - 1)) ∷ []) ≡ []
       end = once-skip (f (1 + (b - 1))) [] (passed (listed 1 (b - 1) f) s)
           (still (f (1 + (b - 1))) (listed 1 (b - 1) f) s
-          (or-right (samePlace (f (1 + (b - 1))) (f 0)) (visited (f (1 + (b - 1))) seen3)
+          (or-true (samePlace (f (1 + (b - 1))) (f 0)) (visited (f (1 + (b - 1))) seen3)
           (still (f (1 + (b - 1))) side3 seen2 (still (f (1 + (b - 1))) side2 seen1 (within1 0 (b - (1 + (b - 1))) (omega arith) (omega arith))))))
 
   old4 : (a ≡ 0) ⊎ (b ≡ 0) → once seen3 side4 ≡ []

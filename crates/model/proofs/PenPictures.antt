@@ -16,160 +16,82 @@ use Rattle.model.specs.Dots.{dot, visible}
 use Rattle.model.specs.Runs.{runs}
 use Rattle.model.specs.Calls.{started}
 use Rattle.model.proofs.Computing.{machine}
-use Rattle.model.proofs.Listings.{minus, thePane, halt, defBitmap, defClipRect, defColors, defLogicalOp, opaque, transparent, enterPick, exitPick, absMov, line, listing}
-use Rattle.model.proofs.Pictures.{Picture, blank, ended, outcomes, expectations}
+use Rattle.model.proofs.Listings.{minus, thePane, halt, defBitmap, defClipRect, defColors, defLogicalOp, opaque, transparent, enterPick, exitPick}
+use Rattle.model.proofs.Listings.{absMov, line, listing}
+use Rattle.model.proofs.Pictures.{Picture, screen, paneRow, drawn, blank, ended, outcomes, expectations}
 
 abbrev table : List Picture
 table =
     -- Depth 1: colours and mask by the bits of the word where the pixel lies, so by the screen's columns; the pane begins at column 3
-    record {
-      geometry = record { width = 24; height = 2; depth = 1 };
-      words = 2;
-      pane = record { left = 3; top = 0; width = 19; height = 2; start = 2; len = 72 };
-      commands =
-          defBitmap thePane 18 1 1 ∷ defColors 0x00FF 0xFF00 ∷ line 18 0 ∷ defLogicalOp 0x3333 5 ∷ defColors 0xFFFF 0x0000 ∷ absMov 0 1
-          ∷ line 18 0 ∷ halt ∷ [];
-      pieces = [];
-      before = blank 2;
-      replies = ended 7 48 (pos 18) (pos 1) 0 0;
-      shows =
-          0b00000000_11111111_00000000_00000000 ∷
-          0b00010011_00110011_00110000_00000000 ∷
-          [];
-      stored = [];
-    }
+    drawn (screen 24 2 1) (paneRow 3 0 19 2 72)
+    (defBitmap thePane 18 1 1 ∷ defColors 0x00FF 0xFF00 ∷ line 18 0 ∷ defLogicalOp 0x3333 5 ∷ defColors 0xFFFF 0x0000 ∷ absMov 0 1
+    ∷ line 18 0 ∷ halt ∷ [])
+    (blank 2)
+    (ended 7 48 (pos 18) (pos 1) 0 0)
+    (0b00000000_11111111_00000000_00000000 ∷
+    0b00010011_00110011_00110000_00000000 ∷ [])
     -- Depth 2: a colour of eight different pixels; background where the pattern has 0
-    ∷ record {
-      geometry = record { width = 20; height = 1; depth = 2 };
-      words = 3;
-      pane = record { left = 3; top = 0; width = 15; height = 1; start = 2; len = 40 };
-      commands = defBitmap thePane 14 0 2 ∷ defColors 0x1BE4 0xFF00 ∷ opaque 0xF5F5 ∷ line 14 0 ∷ halt ∷ [];
-      pieces = [];
-      before = blank 1;
-      replies = ended 4 28 (pos 14) (pos 0) 0 0;
-      shows = 0b00_00_00_11_11_10_01_00_00_11_10_11_11_10_01_00_00_11_00_00_00_00_00_00 ∷ [];
-      stored = [];
-    }
+    ∷ drawn (screen 20 1 2) (paneRow 3 0 15 1 40)
+    (defBitmap thePane 14 0 2 ∷ defColors 0x1BE4 0xFF00 ∷ opaque 0xF5F5 ∷ line 14 0 ∷ halt ∷ [])
+    (blank 1)
+    (ended 4 28 (pos 14) (pos 0) 0 0)
+    (0b00_00_00_11_11_10_01_00_00_11_10_11_11_10_01_00_00_11_00_00_00_00_00_00 ∷ [])
     -- Depth 4: XOR under a mask of one pixel's bits; the code's low four bits count
-    ∷ record {
-      geometry = record { width = 10; height = 2; depth = 4 };
-      words = 3;
-      pane = record { left = 1; top = 0; width = 8; height = 2; start = 2; len = 64 };
-      commands =
-          defBitmap thePane 7 1 4 ∷ defColors 0x1234 0x0000 ∷ defLogicalOp 0xF0F0 65526 ∷ line 7 0 ∷ defLogicalOp 0x137F 10 ∷ absMov 0 1
-          ∷ line 7 0 ∷ halt ∷ [];
-      pieces = [];
-      before =
-          0xFFFF_FFFF_FFFF ∷
-          0x0123_4567_89AB ∷
-          [];
-      replies = ended 7 48 (pos 7) (pos 1) 0 0;
-      shows =
-          0xFFCF_EFCF_EFFF ∷
-          0x014B_454B_89AB ∷
-          [];
-      stored = [];
-    }
+    ∷ drawn (screen 10 2 4) (paneRow 1 0 8 2 64)
+    (defBitmap thePane 7 1 4 ∷ defColors 0x1234 0x0000 ∷ defLogicalOp 0xF0F0 65526 ∷ line 7 0 ∷ defLogicalOp 0x137F 10 ∷ absMov 0 1
+    ∷ line 7 0 ∷ halt ∷ [])
+    (0xFFFF_FFFF_FFFF ∷
+    0x0123_4567_89AB ∷ [])
+    (ended 7 48 (pos 7) (pos 1) 0 0)
+    (0xFFCF_EFCF_EFFF ∷
+    0x014B_454B_89AB ∷ [])
     -- Depth 8: even and odd columns take the high and the low byte of the colour
-    ∷ record {
-      geometry = record { width = 6; height = 3; depth = 8 };
-      words = 3;
-      pane = record { left = 1; top = 1; width = 4; height = 2; start = 2; len = 64 };
-      commands =
-          defBitmap thePane 3 1 8 ∷ defColors 0x12AB 0x0000 ∷ line 3 0 ∷ defLogicalOp 0x0FF0 7 ∷ absMov 3 1 ∷ line (minus 3) 0 ∷ halt ∷ [];
-      pieces = [];
-      before =
-          0x11_11_11_11_11_11 ∷
-          0x11_11_11_11_11_11 ∷
-          0x11_11_11_11_11_11 ∷
-          [];
-      replies = ended 6 42 (pos 0) (pos 1) 0 0;
-      shows =
-          0x11_11_11_11_11_11 ∷
-          0x11_AB_12_AB_12_11 ∷
-          0x11_B1_13_B1_13_11 ∷
-          [];
-      stored = [];
-    }
+    ∷ drawn (screen 6 3 8) (paneRow 1 1 4 2 64)
+    (defBitmap thePane 3 1 8 ∷ defColors 0x12AB 0x0000 ∷ line 3 0 ∷ defLogicalOp 0x0FF0 7 ∷ absMov 3 1 ∷ line (minus 3) 0 ∷ halt ∷ [])
+    (0x11_11_11_11_11_11 ∷
+    0x11_11_11_11_11_11 ∷
+    0x11_11_11_11_11_11 ∷ [])
+    (ended 6 42 (pos 0) (pos 1) 0 0)
+    (0x11_11_11_11_11_11 ∷
+    0x11_AB_12_AB_12_11 ∷
+    0x11_B1_13_B1_13_11 ∷ [])
     -- An operation other than "replace" on pixels of the background and none on those that transparency leaves out
-    ∷ record {
-      geometry = record { width = 8; height = 2; depth = 2 };
-      words = 1;
-      pane = record { left = 0; top = 0; width = 8; height = 2; start = 2; len = 64 };
-      commands =
-          defBitmap thePane 7 1 2 ∷ defColors 0xAAAA 0x5555 ∷ defLogicalOp 0xFFFF 6 ∷ opaque 0xCCCC ∷ line 7 0 ∷ transparent 0xCCCC ∷ absMov 0 1
-          ∷ line 7 0 ∷ halt ∷ [];
-      pieces = [];
-      before =
-          0b00_01_10_11_00_01_10_11 ∷
-          0b00_01_10_11_00_01_10_11 ∷
-          [];
-      replies = ended 8 50 (pos 7) (pos 1) 0 0;
-      shows =
-          0b10_11_11_10_10_11_11_10 ∷
-          0b10_11_10_11_10_11_10_11 ∷
-          [];
-      stored = [];
-    }
+    ∷ drawn (screen 8 2 2) (paneRow 0 0 8 2 64)
+    (defBitmap thePane 7 1 2 ∷ defColors 0xAAAA 0x5555 ∷ defLogicalOp 0xFFFF 6 ∷ opaque 0xCCCC ∷ line 7 0 ∷ transparent 0xCCCC ∷ absMov 0 1
+    ∷ line 7 0 ∷ halt ∷ [])
+    (0b00_01_10_11_00_01_10_11 ∷
+    0b00_01_10_11_00_01_10_11 ∷ [])
+    (ended 8 50 (pos 7) (pos 1) 0 0)
+    (0b10_11_11_10_10_11_11_10 ∷
+    0b10_11_10_11_10_11_10_11 ∷ [])
     -- Pick mode: nothing is drawn, everything else happens; a pixel in the clip sets the flag, though mask and operation would keep it
-    ∷ record {
-      geometry = record { width = 16; height = 2; depth = 1 };
-      words = 1;
-      pane = record { left = 0; top = 0; width = 16; height = 2; start = 2; len = 80 };
-      commands =
-          defBitmap thePane 15 1 1 ∷ defColors 0xFFFF 0x0000 ∷ defLogicalOp 0x0000 3 ∷ enterPick ∷ defClipRect 4 0 6 1 ∷ line 4 0 ∷ halt ∷ [];
-      pieces = [];
-      before = blank 2;
-      replies = ended 6 42 (pos 4) (pos 0) 1 0;
-      shows = blank 2;
-      stored = [];
-    }
+    ∷ drawn (screen 16 2 1) (paneRow 0 0 16 2 80)
+    (defBitmap thePane 15 1 1 ∷ defColors 0xFFFF 0x0000 ∷ defLogicalOp 0x0000 3 ∷ enterPick ∷ defClipRect 4 0 6 1 ∷ line 4 0 ∷ halt ∷ [])
+    (blank 2)
+    (ended 6 42 (pos 4) (pos 0) 1 0)
+    (blank 2)
     -- Pick mode: pixels outside the clip and zeros under transparency do not set the flag
-    ∷ record {
-      geometry = record { width = 16; height = 2; depth = 1 };
-      words = 1;
-      pane = record { left = 0; top = 0; width = 16; height = 2; start = 2; len = 80 };
-      commands =
-          defBitmap thePane 15 1 1 ∷ defColors 0xFFFF 0x0000 ∷ enterPick ∷ defClipRect 4 0 6 1 ∷ line 3 0 ∷ absMov 7 1 ∷ line 5 0
-          ∷ transparent 0xF1FF ∷ absMov 0 0 ∷ line 7 0 ∷ halt ∷ [];
-      pieces = [];
-      before = blank 2;
-      replies = ended 10 64 (pos 7) (pos 0) 0 0;
-      shows = blank 2;
-      stored = [];
-    }
+    ∷ drawn (screen 16 2 1) (paneRow 0 0 16 2 80)
+    (defBitmap thePane 15 1 1 ∷ defColors 0xFFFF 0x0000 ∷ enterPick ∷ defClipRect 4 0 6 1 ∷ line 3 0 ∷ absMov 7 1 ∷ line 5 0
+    ∷ transparent 0xF1FF ∷ absMov 0 0 ∷ line 7 0 ∷ halt ∷ [])
+    (blank 2)
+    (ended 10 64 (pos 7) (pos 0) 0 0)
+    (blank 2)
     -- ENTER_PICK clears the flag, EXIT_PICK keeps it; after it pixels are drawn again, and leave the flag alone
-    ∷ record {
-      geometry = record { width = 16; height = 2; depth = 1 };
-      words = 1;
-      pane = record { left = 0; top = 0; width = 16; height = 2; start = 2; len = 80 };
-      commands = defBitmap thePane 15 1 1 ∷ defColors 0xFFFF 0x0000 ∷ enterPick ∷ line 3 0 ∷ enterPick ∷ exitPick ∷ line 0 1 ∷ halt ∷ [];
-      pieces = [];
-      before = blank 2;
-      replies = ended 7 36 (pos 3) (pos 1) 0 0;
-      shows =
-          0b00010000_00000000 ∷
-          0b00010000_00000000 ∷
-          [];
-      stored = [];
-    }
+    ∷ drawn (screen 16 2 1) (paneRow 0 0 16 2 80)
+    (defBitmap thePane 15 1 1 ∷ defColors 0xFFFF 0x0000 ∷ enterPick ∷ line 3 0 ∷ enterPick ∷ exitPick ∷ line 0 1 ∷ halt ∷ [])
+    (blank 2)
+    (ended 7 36 (pos 3) (pos 1) 0 0)
+    (0b00010000_00000000 ∷
+    0b00010000_00000000 ∷ [])
     -- The flag stays after EXIT_PICK, and a later drawing in pick mode that meets nothing does not clear it
-    ∷ record {
-      geometry = record { width = 16; height = 2; depth = 1 };
-      words = 1;
-      pane = record { left = 0; top = 0; width = 16; height = 2; start = 2; len = 80 };
-      commands =
-          defBitmap thePane 15 1 1 ∷ defColors 0xFFFF 0x0000 ∷ enterPick ∷ line 3 0 ∷ line 0 9 ∷ line 0 3 ∷ exitPick ∷ absMov 2 1 ∷ line 2 0
-          ∷ halt ∷ [];
-      pieces = [];
-      before = blank 2;
-      replies = ended 9 52 (pos 4) (pos 1) 1 0;
-      shows =
-          0b00000000_00000000 ∷
-          0b00111000_00000000 ∷
-          [];
-      stored = [];
-    }
+    ∷ drawn (screen 16 2 1) (paneRow 0 0 16 2 80)
+    (defBitmap thePane 15 1 1 ∷ defColors 0xFFFF 0x0000 ∷ enterPick ∷ line 3 0 ∷ line 0 9 ∷ line 0 3 ∷ exitPick ∷ absMov 2 1 ∷ line 2 0
+    ∷ halt ∷ [])
+    (blank 2)
+    (ended 9 52 (pos 4) (pos 1) 1 0)
+    (0b00000000_00000000 ∷
+    0b00111000_00000000 ∷ [])
     ∷ []
 
 pub pen-pictures : outcomes table ≡ expectations table

@@ -1,6 +1,6 @@
 -- Pictures: a list run on a console with one pane, what the screen shows before and after it, and what the store then holds.
 use mathlib.Core.List.{List, [], _∷_, _++_}
-use Prim.Native.Nat.{ℕ, zero, suc, _/_, _%_}
+use Prim.Native.Nat.{ℕ, zero, suc, _+_, _*_, _/_, _%_}
 use lib.IntN.{ℤ, pos}
 use lib.ListN.{replicate}
 use Rattle.model.specs.Bitmaps.{Geometry, Row}
@@ -26,8 +26,6 @@ painted words (v ∷ vs) = rowBytes words v ++ painted words vs
 -- run's and look's replies, the screen after it, and pieces of the store that are new
 pub record Picture : Type 0 where
   pub geometry : Geometry
-  -- the words of a row of the screen
-  pub words : ℕ
   pub pane : Row
   pub commands : List (List ℕ)
   pub pieces : List Piece
@@ -35,6 +33,10 @@ pub record Picture : Type 0 where
   pub replies : List (List ℤ)
   pub shows : List ℕ
   pub stored : List Piece
+
+-- the words of a row of the screen
+abbrev rowWords : Geometry → ℕ
+rowWords g = (g .width * g .depth + 15) / 16
 
 -- other bytes, before and after the store in its buffer
 abbrev margin : List ℕ
@@ -47,12 +49,12 @@ abbrev pub lent : Picture → State
 lent p =
     record {
       console = record { geometry = p .geometry; count = 1; rows = p .pane ∷ []; panes = [] };
-      screen = painted (p .words) (p .before);
+      screen = painted (rowWords (p .geometry)) (p .before);
       stores = margin ++ (storeBefore p ++ margin);
     }
 
 -- replies, screen and stores
-pub record Outcome : Type 0 where
+pub record Seen : Type 0 where
   pub replies : List (List ℤ)
   pub screen : List ℕ
   pub stores : List ℕ
@@ -60,31 +62,60 @@ pub record Outcome : Type 0 where
 abbrev calls : List Request
 calls = on 0 (start 0) ∷ on 0 (run 99) ∷ on 0 look ∷ []
 
-abbrev seen : Played → Outcome
+abbrev seen : Played → Seen
 seen p = record { replies = p .told; screen = p .left .screen; stores = p .left .stores }
 
-unfoldable pub outcome : Picture → Outcome
+unfoldable pub outcome : Picture → Seen
 unfolding script
 outcome p = seen (script (lent p) calls)
 
-abbrev pub expected : Picture → Outcome
+abbrev pub expected : Picture → Seen
 expected p =
     record {
       replies = (pos 0 ∷ []) ∷ (pos 0 ∷ []) ∷ p .replies;
-      screen = painted (p .words) (p .shows);
+      screen = painted (rowWords (p .geometry)) (p .shows);
       stores = margin ++ (laid (p .stored) (storeBefore p) ++ margin);
     }
 
-unfoldable pub outcomes : List Picture → List Outcome
+unfoldable pub outcomes : List Picture → List Seen
 unfolding outcome
 outcomes [] = []
 outcomes (p ∷ ps) = outcome p ∷ outcomes ps
 
-abbrev pub expectations : List Picture → List Outcome
+abbrev pub expectations : List Picture → List Seen
 expectations [] = []
 expectations (p ∷ ps) = expected p ∷ expectations ps
 
 -- ## Short forms for a picture's parts
+
+abbrev pub screen : ℕ → ℕ → ℕ → Geometry
+screen width height depth = record { width = width; height = height; depth = depth }
+
+-- left, top, width and height, and the length of the store
+abbrev pub paneRow : ℕ → ℕ → ℕ → ℕ → ℕ → Row
+paneRow left top width height len = record { left = left; top = top; width = width; height = height; start = 2; len = len }
+
+-- a list alone in the store, which it leaves as it was: the list, the screen before it, the replies, and the screen after it
+abbrev pub drawn : Geometry → Row → List (List ℕ) → List ℕ → List (List ℤ) → List ℕ → Picture
+drawn g row list before replies shows =
+    record { geometry = g; pane = row; commands = list; pieces = []; before = before; replies = replies; shows = shows; stored = [] }
+
+-- the same with pieces in the store beside the list, and pieces that it leaves new
+abbrev pub storing : List Piece → List Piece → Picture → Picture
+storing pieces new p =
+    record {
+      geometry = p .geometry;
+      pane = p .pane;
+      commands = p .commands;
+      pieces = pieces;
+      before = p .before;
+      replies = p .replies;
+      shows = p .shows;
+      stored = new;
+    }
+
+abbrev pub withPieces : List Piece → Picture → Picture
+withPieces pieces = storing pieces []
 
 abbrev pub blank : ℕ → List ℕ
 blank n = replicate n 0

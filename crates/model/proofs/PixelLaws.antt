@@ -76,7 +76,8 @@ module _ (u : Surface) (c : Change) (s : List ℕ) (f : Fits u s) where
     unfolding at placeBit
     in-buffer =
         let k = inside-true u (c .x) (c .y) e in
-        let h = in-rows (u .base) (u .words) (u .bits) (f .depth) (u .left + u .width) (f .right) (u .left + c .x) (u .top + c .y) (u .top + u .height) (omega arith) (omega arith) in
+        let h = in-rows (u .base) (u .words) (u .bits) (f .depth) (u .left + u .width) (f .right) (u .left + c .x) (u .top + c .y) (u .top + u .height)
+        (omega arith) (omega arith) in
         omega (arith, f .long)
 
     in-one-byte : at % 8 + u .bits ≤ 8
@@ -109,9 +110,12 @@ module _ (u : Surface) (c : Change) (s : List ℕ) (f : Fits u s) where
         go (no l) (no m) = inr (omega arith)
 
     -- another pixel of the pane keeps its value
-    made-other : (x y : ℕ) → x < u .width → y < u .height → (x ≢ c .x) ⊎ (y ≢ c .y) → fieldAt made (placeBit u x y) (u .bits) ≡ fieldAt s (placeBit u x y) (u .bits)
+    made-other : (x y : ℕ) → x < u .width → y < u .height → (x ≢ c .x) ⊎ (y ≢ c .y) → fieldAt made (placeBit u x y) (u .bits)
+        ≡ fieldAt s (placeBit u x y) (u .bits)
     unfolding at placeBit
-    made-other x y h k o = field-bits made s (placeBit u x y) (u .bits) (in-byte (u .base) (u .words) (u .bits) (f .depth) _ _) λ j l. made-keeps (placeBit u x y + j) (side j l far)
+    made-other x y h k o =
+        field-bits made s (placeBit u x y) (u .bits) (in-byte (u .base) (u .words) (u .bits) (f .depth) _ _) λ j l. made-keeps (placeBit u x y + j)
+        (side j l far)
       where
         m : (c .x < u .width) × (c .y < u .height)
         m = inside-true u (c .x) (c .y) e
@@ -123,7 +127,8 @@ module _ (u : Surface) (c : Change) (s : List ℕ) (f : Fits u s) where
         far : (placeBit u x y + u .bits ≤ at) ⊎ (at + u .bits ≤ placeBit u x y)
         far = apart (u .base) (u .words) (u .bits) (f .depth) (u .left + u .width) (f .right) _ _ _ _ (omega arith) (omega (arith, m .0)) (shift o)
 
-        side : (j : ℕ) → j < u .bits → (placeBit u x y + u .bits ≤ at) ⊎ (at + u .bits ≤ placeBit u x y) → (placeBit u x y + j < at) ⊎ (at + u .bits ≤ placeBit u x y + j)
+        side : (j : ℕ) → j < u .bits → (placeBit u x y + u .bits ≤ at) ⊎ (at + u .bits ≤ placeBit u x y) → (placeBit u x y + j < at)
+            ⊎ (at + u .bits ≤ placeBit u x y + j)
         side j l (inl n) = inl (omega arith)
         side j l (inr n) = inr (omega arith)
 
@@ -138,8 +143,8 @@ module _ (u : Surface) (c : Change) (s : List ℕ) (f : Fits u s) where
 
 -- what a change makes of what the pane shows
 pub redraw : Surface → Change → (ℕ → ℕ → ℕ) → ℕ → ℕ → ℕ
-redraw u c look x y =
-    cond (inside u (c .x) (c .y)) (cond (_&&_ (eqb x (c .x)) (eqb y (c .y))) (num (u .bits) (bit (c .new (look (c .x) (c .y))))) (look x y)) (look x y)
+redraw u c pixelOf x y =
+    cond (inside u (c .x) (c .y)) (cond (_&&_ (eqb x (c .x)) (eqb y (c .y))) (num (u .bits) (bit (c .new (pixelOf (c .x) (c .y))))) (pixelOf x y)) (pixelOf x y)
 
 pub pixels-change : (u : Surface) (c : Change) (s : List ℕ) → Fits u s → pixels u (change u c s) ≡ redraw u c (pixels u s)
 unfolding redraw at
@@ -166,7 +171,8 @@ pixels-change u c s f = fun-ext λ x. fun-ext λ y. split (inside u (c .x) (c .y
         here : _&&_ (eqb x (c .x)) (eqb y (c .y)) ≡ true → pixels u m x y ≡ cond (_&&_ (eqb x (c .x)) (eqb y (c .y))) v (pixels u s x y)
         here d =
             let k = both-true _ _ d in
-            ap₂ (pixels u m) (eqb-true x (c .x) (k .0)) (eqb-true y (c .y) (k .1)) ∙ pixels-in u m (c .x) (c .y) e ∙ made-field u c s f e ∙ sym (cond-true _ _ d)
+            ap₂ (pixels u m) (eqb-true x (c .x) (k .0)) (eqb-true y (c .y) (k .1)) ∙ pixels-in u m (c .x) (c .y) e ∙ made-field u c s f e
+            ∙ sym (cond-true _ _ d)
 
         there : _&&_ (eqb x (c .x)) (eqb y (c .y)) ≡ false → pixels u m x y ≡ cond (_&&_ (eqb x (c .x)) (eqb y (c .y))) v (pixels u s x y)
         there d = split (inside u x y)

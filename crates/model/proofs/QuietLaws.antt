@@ -5,7 +5,8 @@ use Prim.Native.Nat.{ℕ, zero, suc}
 use lib.Dec.{eqb}
 use lib.ListN.{getD, set, take, drop, take-append-drop}
 use Rattle.model.specs.Record.{Pane, noPane}
-use Rattle.model.specs.Calls.{State, on, Call, look, pixel, peek, Answer, outcome, part, inPart, rowOf, recordOf, storeOf, onPane, withPane, accepted, refusal, refused, exec}
+use Rattle.model.specs.Calls.{State, on, Call, look, pixel, peek, Answer, outcome, part, inPart, rowOf, recordOf, storeOf, onPane, withPane, accepted}
+use Rattle.model.specs.Calls.{refusal, refused, exec}
 use Rattle.model.specs.Replies.{Response}
 use Rattle.model.proofs.Decisions.{cond-ind}
 

@@ -6,7 +6,8 @@ use mathlib.Core.List.{List, [], _∷_}
 use Prim.Native.Nat.{ℕ}
 use lib.ListN.{replicate}
 use Rattle.model.specs.Bitmaps.{Bitmap}
-use Rattle.model.specs.Record.{Pane, Clip, fresh, withProgress, withPosition, withBitmap, withClip, withOperation, withSpacing, withOrientation, withFont, withFlags, withReturns}
+use Rattle.model.specs.Record.{Pane, Clip, fresh, withProgress, withPosition, withBitmap, withClip, withOperation, withSpacing, withOrientation, withFont}
+use Rattle.model.specs.Record.{withFlags, withReturns}
 use Rattle.model.specs.Setup.{paneBad}
 use Rattle.model.specs.Calls.{State, callRefusal}
 use Rattle.model.specs.declared.Bitmap.the-variants as bitmap

@@ -81,7 +81,8 @@ table =
     -- row count: none, nine, eight
     ∷ panes 6 []
     ∷ counting 6 9 (all ++ replicate 6 (row 0 0 0 0 0 0))
-    ∷ panes 0 (row 0 0 1 1 0 2 ∷ row 1 0 1 1 2 2 ∷ row 2 0 1 1 4 2 ∷ row 3 0 1 1 6 2 ∷ row 4 0 1 1 8 2 ∷ row 5 0 1 1 10 2 ∷ row 6 0 1 1 12 2 ∷ row 7 0 1 1 14 2 ∷ [])
+    ∷ panes 0 (row 0 0 1 1 0 2 ∷ row 1 0 1 1 2 2 ∷ row 2 0 1 1 4 2 ∷ row 3 0 1 1 6 2 ∷ row 4 0 1 1 8 2 ∷ row 5 0 1 1 10 2 ∷ row 6 0 1 1 12 2 ∷ row 7 0 1 1 14 2
+    ∷ [])
     -- rows at or above the count are not looked at
     ∷ counting 0 2 (one ∷ two ∷ row 0 0 0 0 0 1 ∷ one ∷ [])
     -- ## 7: screen buffer shorter than its rows
@@ -116,7 +117,8 @@ table =
     ∷ panes 10 (row 8 5 2 2 0 10 ∷ two ∷ three ∷ [])
     ∷ panes 10 (one ∷ three ∷ three ∷ [])
     -- the last two of eight
-    ∷ panes 10 (row 0 0 1 1 0 2 ∷ row 1 0 1 1 2 2 ∷ row 2 0 1 1 4 2 ∷ row 3 0 1 1 6 2 ∷ row 4 0 1 1 8 2 ∷ row 5 0 1 1 10 2 ∷ row 6 0 2 1 12 2 ∷ row 7 0 1 1 14 2 ∷ [])
+    ∷ panes 10 (row 0 0 1 1 0 2 ∷ row 1 0 1 1 2 2 ∷ row 2 0 1 1 4 2 ∷ row 3 0 1 1 6 2 ∷ row 4 0 1 1 8 2 ∷ row 5 0 1 1 10 2 ∷ row 6 0 2 1 12 2 ∷ row 7 0 1 1 14 2
+    ∷ [])
     -- the same columns in other rows
     ∷ panes 0 (row 7 0 13 4 0 10 ∷ row 7 4 13 6 10 6 ∷ [])
     -- ## 11: two stores share a byte

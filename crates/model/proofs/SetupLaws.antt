@@ -9,12 +9,13 @@ use native.Mathlib.Decide.{decLt, ℕ-discrete}
 use native.Mathlib.Nat.{not-suc-le-zero}
 use native.Mathlib.Numerals.{add-one}
 use lib.Dec.{eqb, ltb}
+use Rattle.model.specs.Numbers.{refuseGeometry, refuseOverlap, refuseRectangle, refuseScreen, refuseShared, refuseStore}
 use Rattle.model.specs.declared.Geometry.{Geometry}
 use Rattle.model.specs.declared.Row.{Row}
 use Rattle.model.specs.Ranges.{anyBelow, outOf}
 use Rattle.model.specs.Bitmaps.{isDepth, shareSpan, Depth}
-use Rattle.model.specs.Setup.{rowAt, geometryBad, screenBytes, rectangleBad, storeBad, sharePixel, shareByte, checks}
-use borrow.Author.Tests.{ltb-false, lt-ltb, eqb-true, not-false}
+use Rattle.model.specs.Setup.{rowAt, geometryBad, screenBytes, mostStore, rectangleBad, storeBad, sharePixel, shareByte, checks}
+use borrow.Author.Tests.{ltb-false, lt-ltb, eqb-true, eqb-false, not-false}
 use Rattle.model.proofs.Decisions.{both-of, either-false, either-true, cond-none, holds}
 
 -- one more: the test at n joined to those below n
@@ -69,19 +70,39 @@ share-of a m b n x h1 h2 h3 h4 =
 no-pixel : (a b : Row) → sharePixel a b ≡ false → NoPixel a b
 unfolding sharePixel NoPixel
 no-pixel a b e x y h1 h2 h3 h4 h5 h6 h7 h8 =
-    holds (sym e ∙ both-of (share-of (a .left) (a .width) (b .left) (b .width) x h1 h2 h3 h4) (share-of (a .top) (a .height) (b .top) (b .height) y h5 h6 h7 h8))
+    holds (sym e ∙ both-of (share-of (a .left) (a .width) (b .left) (b .width) x h1 h2 h3 h4)
+    (share-of (a .top) (a .height) (b .top) (b .height) y h5 h6 h7 h8))
 
 no-byte : (a b : Row) → shareByte a b ≡ false → NoByte a b
 unfolding shareByte NoByte
 no-byte a b e i h1 h2 h3 h4 = holds (sym e ∙ share-of (a .start) (a .len) (b .start) (b .len) i h1 h2 h3 h4)
 
-pub record Valid (g : Geometry) (n : ℕ) (rows : List Row) (screen stores : ℕ) : Type 0 where
-  pub depth : Depth (g .depth)
+-- the geometry and the number of rows that 6 lets pass
+pub record GeometryGood (g : Geometry) (n : ℕ) : Type 0 where
+  pub width : g .width ≤ 4096
+  pub height : g .height ≤ 4096
+  pub depth : isDepth (g .depth) ≡ true
   pub count : n ≤ 8
+
+-- a row's rectangle that 8 lets pass
+pub record RectangleGood (g : Geometry) (r : Row) : Type 0 where
+  pub wide : 0 < r .width
+  pub tall : 0 < r .height
+  pub right : r .left + r .width ≤ g .width
+  pub bottom : r .top + r .height ≤ g .height
+
+-- a row's store that 9 lets pass
+pub record StoreGood (stores : ℕ) (r : Row) : Type 0 where
+  pub even : r .len % 2 ≡ 0
+  pub most : r .len ≤ mostStore
+  pub room : r .start + r .len ≤ stores
+
+pub record Valid (g : Geometry) (n : ℕ) (rows : List Row) (screen stores : ℕ) : Type 0 where
+  pub geometry : GeometryGood g n
+  pub depth : Depth (g .depth)
   pub long : screenBytes g ≤ screen
-  pub right : (k : ℕ) → k < n → rowAt rows k .left + rowAt rows k .width ≤ g .width
-  pub bottom : (k : ℕ) → k < n → rowAt rows k .top + rowAt rows k .height ≤ g .height
-  pub store : (k : ℕ) → k < n → rowAt rows k .start + rowAt rows k .len ≤ stores
+  pub rectangle : (k : ℕ) → k < n → RectangleGood g (rowAt rows k)
+  pub store : (k : ℕ) → k < n → StoreGood stores (rowAt rows k)
   pub no-pixels : (i j : ℕ) → i < n → j < n → i ≢ j → NoPixel (rowAt rows i) (rowAt rows j)
   pub no-bytes : (i j : ℕ) → i < n → j < n → i ≢ j → NoByte (rowAt rows i) (rowAt rows j)
 
@@ -93,47 +114,67 @@ ordered m rows P s f i j h k n = go (decLt i j)
     go (yes l) = f i j l k
     go (no l) = s _ _ (f j i (omega arith) h)
 
-geometry-say : (g : Geometry) (n : ℕ) → geometryBad g n ≡ false → Depth (g .depth) × (n ≤ 8)
+outOf-most : (lo hi n : ℕ) → outOf lo hi n ≡ false → n ≤ hi
+outOf-most lo hi n h = ltb-false hi n (either-false (ltb n lo) (ltb hi n) h .1)
+
+pub geometryBad-good : (g : Geometry) (n : ℕ) → geometryBad g n ≡ false → GeometryGood g n
 unfolding geometryBad
-geometry-say g n e =
-    let a = either-false (outOf 1 4096 (g .width)) (outOf 1 4096 (g .height) || (not (isDepth (g .depth)) || outOf 1 8 n)) e in
+geometryBad-good g n h =
+    let a = either-false (outOf 1 4096 (g .width)) (outOf 1 4096 (g .height) || (not (isDepth (g .depth)) || outOf 1 8 n)) h in
     let b = either-false (outOf 1 4096 (g .height)) (not (isDepth (g .depth)) || outOf 1 8 n) (a .1) in
     let c = either-false (not (isDepth (g .depth))) (outOf 1 8 n) (b .1) in
-    (depth-of (g .depth) (not-false _ (c .0)), ltb-false 8 n (either-false (ltb n 1) (ltb 8 n) (c .1) .1))
+    record {
+      width = outOf-most 1 4096 (g .width) (a .0);
+      height = outOf-most 1 4096 (g .height) (b .0);
+      depth = not-false (isDepth (g .depth)) (c .0);
+      count = outOf-most 1 8 n (c .1);
+    }
 
-rectangle-say : (g : Geometry) (r : Row) → rectangleBad g r ≡ false → (r .left + r .width ≤ g .width) × (r .top + r .height ≤ g .height)
+rectangleBad-good : (g : Geometry) (r : Row) → rectangleBad g r ≡ false → RectangleGood g r
 unfolding rectangleBad
-rectangle-say g r e =
+rectangleBad-good g r h =
     let x = ltb (g .width) (r .left + r .width) in
     let y = ltb (g .height) (r .top + r .height) in
-    let a = either-false (eqb (r .width) 0) (eqb (r .height) 0 || (x || y)) e in
+    let a = either-false (eqb (r .width) 0) (eqb (r .height) 0 || (x || y)) h in
     let b = either-false (eqb (r .height) 0) (x || y) (a .1) in
     let c = either-false x y (b .1) in
-    (ltb-false (g .width) (r .left + r .width) (c .0), ltb-false (g .height) (r .top + r .height) (c .1))
+    let w = eqb-false (r .width) 0 (a .0) in
+    let t = eqb-false (r .height) 0 (b .0) in
+    record {
+      wide = omega arith;
+      tall = omega arith;
+      right = ltb-false (g .width) (r .left + r .width) (c .0);
+      bottom = ltb-false (g .height) (r .top + r .height) (c .1);
+    }
 
-store-say : (n : ℕ) (r : Row) → storeBad n r ≡ false → r .start + r .len ≤ n
+storeBad-good : (stores : ℕ) (r : Row) → storeBad stores r ≡ false → StoreGood stores r
 unfolding storeBad
-store-say n r e =
-    let a = either-false (eqb (r .len % 2) 1) (ltb 2097152 (r .len) || ltb n (r .start + r .len)) e in
-    ltb-false n (r .start + r .len) (either-false (ltb 2097152 (r .len)) (ltb n (r .start + r .len)) (a .1) .1)
+storeBad-good stores r h =
+    let a = either-false (eqb (r .len % 2) 1) (ltb mostStore (r .len) || ltb stores (r .start + r .len)) h in
+    let b = either-false (ltb mostStore (r .len)) (ltb stores (r .start + r .len)) (a .1) in
+    let e = eqb-false (r .len % 2) 1 (a .0) in
+    record { even = omega arith; most = ltb-false mostStore (r .len) (b .0); room = ltb-false stores (r .start + r .len) (b .1) }
 
 pub checks-say : (g : Geometry) (n : ℕ) (rows : List Row) (screen stores : ℕ) → checks g n rows screen stores ≡ 0 → Valid g n rows screen stores
 unfolding checks NoPixel NoByte
 checks-say g n rows screen stores e =
-    let p6 = cond-none (geometryBad g n) 5 _ e in
-    let p7 = cond-none (ltb screen (screenBytes g)) 6 _ (p6 .1) in
-    let p8 = cond-none (anyBelow n (λ k. rectangleBad g (rowAt rows k))) 7 _ (p7 .1) in
-    let p9 = cond-none (anyBelow n (λ k. storeBad stores (rowAt rows k))) 8 _ (p8 .1) in
-    let p10 = cond-none (anyBelow n (λ j. anyBelow j (λ i. sharePixel (rowAt rows i) (rowAt rows j)))) 9 _ (p9 .1) in
-    let p11 = cond-none (anyBelow n (λ j. anyBelow j (λ i. shareByte (rowAt rows i) (rowAt rows j)))) 10 0 (p10 .1) in
-    let q = geometry-say g n (p6 .0) in
+    let p6 = cond-none (geometryBad g n) refuseGeometry _ tt e in
+    let p7 = cond-none (ltb screen (screenBytes g)) refuseScreen _ tt (p6 .1) in
+    let p8 = cond-none (anyBelow n (λ k. rectangleBad g (rowAt rows k))) refuseRectangle _ tt (p7 .1) in
+    let p9 = cond-none (anyBelow n (λ k. storeBad stores (rowAt rows k))) refuseStore _ tt (p8 .1) in
+    let p10 = cond-none (anyBelow n (λ j. anyBelow j (λ i. sharePixel (rowAt rows i) (rowAt rows j)))) refuseOverlap _ tt (p9 .1) in
+    let p11 = cond-none (anyBelow n (λ j. anyBelow j (λ i. shareByte (rowAt rows i) (rowAt rows j)))) refuseShared 0 tt (p10 .1) in
+    let q = geometryBad-good g n (p6 .0) in
     record {
-      depth = q .0;
-      count = q .1;
+      geometry = q;
+      depth = depth-of (g .depth) (q .depth);
       long = ltb-false screen (screenBytes g) (p7 .0);
-      right = λ k h. rectangle-say g (rowAt rows k) (any-below n (λ k. rectangleBad g (rowAt rows k)) k (p8 .0) h) .0;
-      bottom = λ k h. rectangle-say g (rowAt rows k) (any-below n (λ k. rectangleBad g (rowAt rows k)) k (p8 .0) h) .1;
-      store = λ k h. store-say stores (rowAt rows k) (any-below n (λ k. storeBad stores (rowAt rows k)) k (p9 .0) h);
-      no-pixels = ordered n rows NoPixel (λ a b f x y h1 h2 h3 h4 h5 h6 h7 h8. f x y h3 h4 h1 h2 h7 h8 h5 h6) (λ i j l h. no-pixel _ _ (any-pair n (λ i j. sharePixel (rowAt rows i) (rowAt rows j)) i j (p10 .0) l h));
-      no-bytes = ordered n rows NoByte (λ a b f x h1 h2 h3 h4. f x h3 h4 h1 h2) (λ i j l h. no-byte _ _ (any-pair n (λ i j. shareByte (rowAt rows i) (rowAt rows j)) i j (p11 .0) l h));
+      rectangle = λ k h. rectangleBad-good g (rowAt rows k) (any-below n (λ k. rectangleBad g (rowAt rows k)) k (p8 .0) h);
+      store = λ k h. storeBad-good stores (rowAt rows k) (any-below n (λ k. storeBad stores (rowAt rows k)) k (p9 .0) h);
+      no-pixels =
+          ordered n rows NoPixel (λ a b f x y h1 h2 h3 h4 h5 h6 h7 h8. f x y h3 h4 h1 h2 h7 h8 h5 h6)
+          (λ i j l h. no-pixel _ _ (any-pair n (λ i j. sharePixel (rowAt rows i) (rowAt rows j)) i j (p10 .0) l h));
+      no-bytes =
+          ordered n rows NoByte (λ a b f x h1 h2 h3 h4. f x h3 h4 h1 h2) (λ i j l h. no-byte _ _
+          (any-pair n (λ i j. shareByte (rowAt rows i) (rowAt rows j)) i j (p11 .0) l h));
     }

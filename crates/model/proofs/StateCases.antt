@@ -11,7 +11,8 @@ use Rattle.model.specs.declared.Bitmap.the-variants as bitmap
 use Rattle.model.specs.declared.Font.the-variants as font
 use Rattle.model.specs.Calls.{State, on, start, run}
 use Rattle.model.proofs.Computing.{machine}
-use Rattle.model.proofs.Listings.{thePane, nop, link, call, return, defBitmap, defClipRect, defColors, defLogicalOp, opaque, transparent, defSpace, defCharOrient, wordFont, byteFont, enterPick, exitPick, absMov, relMov, point, minus, listing}
+use Rattle.model.proofs.Listings.{thePane, nop, link, call, return, defBitmap, defClipRect, defColors, defLogicalOp, opaque, transparent, defSpace}
+use Rattle.model.proofs.Listings.{defCharOrient, wordFont, byteFont, enterPick, exitPick, absMov, relMov, point, minus, listing}
 use Rattle.model.proofs.Scripts.{script, piece, laid}
 
 -- 11 commands; CALL goes to the next one. DEF_CHAR_ORIENT has all its reserved bits set, path 1 and rotation 2

@@ -10,8 +10,8 @@ use Rattle.model.specs.Ranges.{listed, joined}
 use Rattle.model.specs.Coordinates.{coord}
 use Rattle.model.specs.Operations.{newBit}
 use Rattle.model.specs.Glyphs.{passed}
-use Rattle.model.specs.Commands.{Shape, Decoded, shapeOf, decode}
-use Rattle.model.specs.declared.Shape.the-variants.{Known, Unknown}
+use Rattle.model.specs.Commands.{blockOf, OpcodeEntry, Decoded, opcodeOf, decode}
+use Rattle.model.specs.declared.OpcodeEntry.the-variants.{Known, Unknown}
 use Rattle.model.specs.declared.Command.the-variants as command
 use Rattle.model.specs.declared.Decoded.the-variants.{Do}
 use Rattle.model.specs.declared.Font.the-variants as font
@@ -62,7 +62,7 @@ opcodes =
     ∷ entry 0x55 (Do (command.Line 0x1001 0xFFC2) 6)
     ∷ entry 0x58 (Do (command.Rect 0x1001 0xFFC2) 6)
     -- source x, y, dx, dy
-    ∷ entry 0x64 (Do (command.BitBlt 0x1001 0xFFC2 3 4) 10)
+    ∷ entry 0x64 (Do (command.BitBlt (blockOf 0x1001 0xFFC2 3 4)) 10)
     ∷ entry 0x74 (Do (command.Polyline 0x21001 3) 8)
     -- string, number; opaque, transparent, and both once more
     ∷ entry 0xA6 (Do (command.Char 0x21001 3 false) 8)
@@ -70,7 +70,7 @@ opcodes =
     ∷ entry 0xA8 (Do (command.Char 0x21001 3 false) 8)
     ∷ entry 0xA9 (Do (command.Char 0x21001 3 true) 8)
     -- address, xmax, ymax; source x, y, dx, dy
-    ∷ entry 0xAE (Do (command.BitBltM 0x21001 3 4 5 6 7 8) 18)
+    ∷ entry 0xAE (Do (command.BitBltM 0x21001 3 4 (blockOf 5 6 7 8)) 18)
     ∷ entry 0xBA (Do (command.ScanLines 0x21001 3) 8)
     ∷ []
 
@@ -92,11 +92,11 @@ abbrev listedIn : ℕ → List Entry → Bool
 listedIn op [] = false
 listedIn op (e ∷ es) = eqb op (e .op) || listedIn op es
 
-abbrev known : Shape → Bool
+abbrev known : OpcodeEntry → Bool
 known (Known op n) = true
 known Unknown = false
 
-pub opcodes-all : listed 0 256 (λ op. known (shapeOf op)) ≡ listed 0 256 (λ op. listedIn op opcodes)
+pub opcodes-all : listed 0 256 (λ op. known (opcodeOf op)) ≡ listed 0 256 (λ op. listedIn op opcodes)
 unfolding machine
 opcodes-all = refl
 

@@ -79,7 +79,15 @@ paneSurface g r =
 -- "A store bitmap is laid out so with its own bits per pixel for b"
 unfoldable pub storeSurface : ℕ → ℕ → ℕ → ℕ → Surface
 storeSurface a xmax ymax b =
-    record { base = a; words = rowWords (xmax + 1) b; bits = b; left = 0; top = 0; width = xmax + 1; height = ymax + 1 }
+    record {
+      base = a;
+      words = rowWords (xmax + 1) b;
+      bits = b;
+      left = 0;
+      top = 0;
+      width = xmax + 1;
+      height = ymax + 1;
+    }
 
 -- no pixels
 abbrev pub nowhere : Surface
@@ -107,8 +115,8 @@ paneBitmapBad g r xmax ymax b = not (eqb (xmax + 1) (r .width) && (eqb (ymax + 1
 abbrev pub bitmapBytes : ℕ → ℕ → ℕ → ℕ
 bitmapBytes xmax ymax b = 2 * (rowWords (xmax + 1) b * (ymax + 1))
 
--- "Any other bitmap has an even address, xmax and ymax up to 7FFF hex, 1, 2, 4 or 8 bits, rows as above, all inside the store", broken;
--- by the store's length
+-- "Any other bitmap has an even address, xmax and ymax up to 7FFF hex, 1, 2, 4 or 8 bits, rows as above, all
+-- inside the store", broken; by the store's length
 unfoldable pub storeBitmapBad : ℕ → ℕ → ℕ → ℕ → ℕ → Bool
 storeBitmapBad len a xmax ymax b =
     eqb (a % 2) 1

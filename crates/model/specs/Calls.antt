@@ -1,11 +1,13 @@
--- The calls (01, "Calls and their refusals, in order"): one definition, exec, that every call's contract cites.
+-- The calls (01, "Calls and their refusals, in order"): one definition, exec, that every call's contract
+-- cites.
 use Prim.Native.Nat.{ℕ, _+_, _%_}
 use mathlib.Core.List.{List, [], _∷_, _++_}
 use mathlib.Core.Bool.{cond, _&&_}
 use lib.Dec.{ltb, leb, eqb}
 use lib.ListN.{getD, set, length, take, drop, replicate}
 use Rattle.model.specs.Ranges.{orElse}
-use Rattle.model.specs.Numbers.{statusRunning, refusePane, refuseEnd, refuseOdd, refuseStatus, refusePixel, refuseRecord}
+use Rattle.model.specs.Numbers.{statusRunning, refusePane, refuseEnd, refuseOdd, refuseStatus, refusePixel}
+use Rattle.model.specs.Numbers.{refuseRecord}
 use Rattle.model.specs.Bitmaps.{Geometry, Row, paneSurface, pixels}
 use Rattle.model.specs.Record.{Pane, fresh, noReturns, withProgress, withReturns}
 use Rattle.model.specs.Runs.{Finish, runs}
@@ -19,7 +21,8 @@ pub record State : Type 0 where
   pub screen : List ℕ
   pub stores : List ℕ
 
--- the calls on a pane, with their values: put (address, bytes), start (address), run (budget), look, pixel (x,y), peek (address), clear
+-- the calls on a pane, with their values: put (address, bytes), start (address), run (budget), look, pixel
+-- (x,y), peek (address), clear
 pub data Call : Type 0 where
   put : ℕ → List ℕ → Call
   start : ℕ → Call
@@ -82,12 +85,22 @@ started p a = withReturns (withProgress p (record { status = statusRunning; faul
 -- "else commands done, status, fault"
 abbrev pub ran : Finish → Outcome
 ran f =
-    outcome (acceptedWith (ranValues (record { commands = f .count; status = f .pane .progress .status; fault = f .pane .progress .fault })))
+    outcome (acceptedWith (ranValues (record {
+      commands = f .count;
+      status = f .pane .progress .status;
+      fault = f .pane .progress .fault;
+    })))
     (f .pane) (f .screen) (f .store)
 
 -- "status, fault, pointer, position, pick and trap flag"
 abbrev pub shown : Pane → Response
-shown p = acceptedWith (viewValues (record { progress = p .progress; position = p .position; pick = p .flags .pick; trap = p .flags .trap }))
+shown p =
+    acceptedWith (viewValues (record {
+      progress = p .progress;
+      position = p .position;
+      pick = p .flags .pick;
+      trap = p .flags .trap;
+    }))
 
 unfoldable pub onPane : Geometry → Row → Pane → List ℕ → List ℕ → Call → Outcome
 -- "else they stand in the store from the address on, all else kept"
@@ -97,7 +110,8 @@ onPane g r p screen store (run budget) = ran (runs g r budget p screen store)
 -- "Look, pixel and peek change nothing"
 onPane g r p screen store look = outcome (shown p) p screen store
 -- "else its value"
-onPane g r p screen store (pixel x y) = outcome (acceptedWith (natural (pixels (paneSurface g r) screen x y) ∷ [])) p screen store
+onPane g r p screen store (pixel x y) =
+    outcome (acceptedWith (natural (pixels (paneSurface g r) screen x y) ∷ [])) p screen store
 -- "else the byte"
 onPane g r p screen store (peek a) = outcome (acceptedWith (natural (getD store a 0) ∷ [])) p screen store
 -- "fresh pane record, store and pixels kept"
@@ -117,9 +131,11 @@ unfoldable pub storeOf : State → ℕ → List ℕ
 storeOf s k = part (s .stores) (rowOf s k .start) (rowOf s k .len)
 
 unfoldable pub setupRefusal : State → ℕ
-setupRefusal s = checks (s .console .geometry) (s .console .count) (s .console .rows) (length (s .screen)) (length (s .stores))
+setupRefusal s =
+    checks (s .console .geometry) (s .console .count) (s .console .rows) (length (s .screen)) (length (s .stores))
 
--- "Every call: set-up's checks again on the record lent; 1 no such pane; 12 ..", by the record and the lengths of the two buffers; 0 for none
+-- "Every call: set-up's checks again on the record lent; 1 no such pane; 12 ..", by the record and the
+-- lengths of the two buffers; 0 for none
 unfoldable pub callChecks : Console → ℕ → ℕ → ℕ → ℕ
 callChecks c screen stores k =
     orElse (checks (c .geometry) (c .count) (c .rows) screen stores)
@@ -143,7 +159,13 @@ withPane s k o =
     record {
       reply = o .reply;
       state = record {
-        console = record { geometry = s .console .geometry; count = s .console .count; rows = s .console .rows; panes = set (s .console .panes) k (o .pane) };
+        console =
+            record {
+              geometry = s .console .geometry;
+              count = s .console .count;
+              rows = s .console .rows;
+              panes = set (s .console .panes) k (o .pane);
+            };
         screen = o .screen;
         stores = inPart (s .stores) (rowOf s k .start) (rowOf s k .len) (o .store);
       };
@@ -153,7 +175,8 @@ withPane s k o =
 unfoldable pub accepted : State → Request → Answer
 accepted s c =
     withPane s (c .number)
-    (onPane (s .console .geometry) (rowOf s (c .number)) (recordOf s (c .number)) (s .screen) (storeOf s (c .number)) (c .call))
+    (onPane (s .console .geometry) (rowOf s (c .number)) (recordOf s (c .number)) (s .screen) (storeOf s (c .number))
+    (c .call))
 
 -- "record and buffers keep every bit"
 abbrev pub refused : State → ℕ → Answer
@@ -163,14 +186,21 @@ refused s n = record { reply = refusedWith n; state = s }
 unfoldable pub exec : State → Request → Answer
 exec s c = cond (eqb (refusal s c) 0) (accepted s c) (refused s (refusal s c))
 
--- "Set-up takes a record with geometry and table, ignoring its pane records; accepted, it makes all eight fresh and both buffers keep every bit"
+-- "Set-up takes a record with geometry and table, ignoring its pane records; accepted, it makes all eight
+-- fresh and both buffers keep every bit"
 unfoldable pub setUp : State → Answer
 setUp s =
     cond (eqb (setupRefusal s) 0)
     (record {
       reply = acceptedWith [];
       state = record {
-        console = record { geometry = s .console .geometry; count = s .console .count; rows = s .console .rows; panes = replicate 8 fresh };
+        console =
+            record {
+              geometry = s .console .geometry;
+              count = s .console .count;
+              rows = s .console .rows;
+              panes = replicate 8 fresh;
+            };
         screen = s .screen;
         stores = s .stores;
       };

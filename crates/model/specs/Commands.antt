@@ -8,8 +8,9 @@ use Rattle.model.specs.Numbers.{faultOpcode, faultFetch}
 use Rattle.model.specs.Words.{wordAt, address, addressEnd}
 pub use Rattle.model.specs.declared.Opcode.{Opcode}
 use Rattle.model.specs.declared.Opcode.the-variants as opcode
-pub use Rattle.model.specs.declared.Shape.{Shape}
-use Rattle.model.specs.declared.Shape.the-variants.{Known, Unknown}
+pub use Rattle.model.specs.declared.OpcodeEntry.{OpcodeEntry}
+use Rattle.model.specs.declared.OpcodeEntry.the-variants.{Known, Unknown}
+pub use Rattle.model.specs.declared.Block.{Block}
 pub use Rattle.model.specs.declared.Command.{Command}
 use Rattle.model.specs.declared.Command.the-variants as command
 pub use Rattle.model.specs.declared.Decoded.{Decoded}
@@ -19,10 +20,10 @@ use Rattle.model.specs.declared.Decoded.the-variants.{Do, End, Fault}
 abbrev pub from : ℕ → ℕ → ℕ → Bool
 from a e op = leb a op && leb op e
 
--- the opcodes of 003 that are built, each with its number of parameter words; "Every other opcode is unknown".
--- 06, 0A and A6, A8 are opaque or word mode, 07, 0B and A7, A9 transparent or byte mode
-unfoldable pub shapeOf : ℕ → Shape
-shapeOf op =
+-- the opcodes of 003 that are built, each with its number of parameter words; "Every other opcode is
+-- unknown". 06, 0A and A6, A8 are opaque or word mode, 07, 0B and A7, A9 transparent or byte mode
+unfoldable pub opcodeOf : ℕ → OpcodeEntry
+opcodeOf op =
     cond (eqb op 0x02) (Known opcode.Link 2)
     (cond (eqb op 0x03) (Known opcode.Nop 0)
     (cond (from 0x06 0x07 op) (Known (opcode.DefTexture (eqb op 0x07)) 1)
@@ -53,6 +54,10 @@ shapeOf op =
 abbrev pub parameter : List ℕ → ℕ → ℕ → ℕ
 parameter s at i = wordAt s (at + 2 + 2 * i)
 
+-- a copy's source rectangle, by its words
+abbrev pub blockOf : ℕ → ℕ → ℕ → ℕ → Block
+blockOf x y dx dy = record { x = x; y = y; dx = dx; dy = dy }
+
 -- the command with its words, in the order that 003 gives them; a low address word comes before its high one
 unfoldable pub commandOf : Opcode → (ℕ → ℕ) → Command
 commandOf opcode.Link w = command.Link (address (w 0) (w 1))
@@ -74,10 +79,10 @@ commandOf opcode.RelMov w = command.RelMov (w 0) (w 1)
 commandOf opcode.Point w = command.Point (w 0) (w 1)
 commandOf opcode.Line w = command.Line (w 0) (w 1)
 commandOf opcode.Rect w = command.Rect (w 0) (w 1)
-commandOf opcode.BitBlt w = command.BitBlt (w 0) (w 1) (w 2) (w 3)
+commandOf opcode.BitBlt w = command.BitBlt (blockOf (w 0) (w 1) (w 2) (w 3))
 commandOf opcode.Polyline w = command.Polyline (address (w 0) (w 1)) (w 2)
 commandOf (opcode.Char t) w = command.Char (address (w 0) (w 1)) (w 2) t
-commandOf opcode.BitBltM w = command.BitBltM (address (w 0) (w 1)) (w 2) (w 3) (w 4) (w 5) (w 6) (w 7)
+commandOf opcode.BitBltM w = command.BitBltM (address (w 0) (w 1)) (w 2) (w 3) (blockOf (w 4) (w 5) (w 6) (w 7))
 commandOf opcode.ScanLines w = command.ScanLines (address (w 0) (w 1)) (w 2)
 
 -- a is the address that a command holds; the commands left out hold none
@@ -88,7 +93,7 @@ pub data AddressIn : Command → ℕ → Type 0 where
   fontAt : {a : ℕ} {bytes : Bool} → AddressIn (command.DefCharSet a bytes) a
   pairsAt : {a n : ℕ} → AddressIn (command.Polyline a n) a
   triplesAt : {a n : ℕ} → AddressIn (command.ScanLines a n) a
-  sourceAt : {a xmax ymax x y dx dy : ℕ} → AddressIn (command.BitBltM a xmax ymax x y dx dy) a
+  sourceAt : {a xmax ymax : ℕ} {b : Block} → AddressIn (command.BitBltM a xmax ymax b) a
   stringAt : {a n : ℕ} {transparent : Bool} → AddressIn (command.Char a n transparent) a
 
 -- "Addresses have 22 bits"
@@ -96,15 +101,15 @@ abbrev pub Addressed : Command → Type 0
 Addressed c = (a : ℕ) → AddressIn c a → a < addressEnd
 
 -- "An unknown opcode gives 20. Parameter words outside the store give 21"
-unfoldable pub fetch : ℕ → List ℕ → ℕ → Shape → Decoded
+unfoldable pub fetch : ℕ → List ℕ → ℕ → OpcodeEntry → Decoded
 fetch len s at Unknown = Fault faultOpcode
 fetch len s at (Known op n) =
     cond (ltb len (at + 2 + 2 * n)) (Fault faultFetch) (Do (commandOf op (parameter s at)) (at + 2 + 2 * n))
 
--- "A pointer that is odd or whose word is outside the store gives fault 21. Bit 0 (GECL) set, or HALT, makes status 2" (HALT is any word with
--- bit 0 set); by the store's length and bytes, and the pointer
+-- "A pointer that is odd or whose word is outside the store gives fault 21. Bit 0 (GECL) set, or HALT, makes
+-- status 2" (HALT is any word with bit 0 set); by the store's length and bytes, and the pointer
 unfoldable pub decode : ℕ → List ℕ → ℕ → Decoded
 decode len s at =
     cond (eqb (at % 2) 1 || ltb len (at + 2)) (Fault faultFetch)
     (cond (eqb (wordAt s at % 2) 1) End
-    (fetch len s at (shapeOf (wordAt s at / 256))))
+    (fetch len s at (opcodeOf (wordAt s at / 256))))

@@ -1,4 +1,5 @@
--- Dots (01, "Pixels"): what a drawing command draws, as a list of places with their sources; which of them are visible, and what they change.
+-- Dots (01, "Pixels"): what a drawing command draws, as a list of places with their sources; which of them
+-- are visible, and what they change.
 use Prim.Native.Nat.{ℕ, _+_}
 use mathlib.Core.Bool.{Bool, true, false, _&&_}
 use mathlib.Core.List.{List, [], _∷_, _++_}
@@ -28,8 +29,8 @@ abbrev pub drawing : List Dot → Point → Drawing
 drawing ds p = record { dots = ds; position = p; trap = false }
 
 -- dots before a drawing
-abbrev pub before : List Dot → Drawing → Drawing
-before ds d = record { dots = ds ++ d .dots; position = d .position; trap = d .trap }
+abbrev pub prepended : List Dot → Drawing → Drawing
+prepended ds d = record { dots = ds ++ d .dots; position = d .position; trap = d .trap }
 
 abbrev pub something : Source → Bool
 something source.Nothing = false
@@ -41,7 +42,8 @@ abbrev pub below : ℕ → ℤ → Bool
 below n (pos k) = ltb k n
 below n (negsuc k) = false
 
--- "A pixel is drawn if it lies in bitmap and clip and isn't a 0 of a pattern or cell under transparency; a copied 0 is drawn"
+-- "A pixel is drawn if it lies in bitmap and clip and isn't a 0 of a pattern or cell under transparency; a
+-- copied 0 is drawn"
 unfoldable pub visible : Surface → Clip → Dot → Bool
 visible s c d =
     something (d .source)
@@ -57,7 +59,11 @@ hits s c (d ∷ ds) = digit (visible s c d) + hits s c ds
 -- the change that a visible dot makes
 abbrev pub changeOf : Surface → Pen → Dot → Change
 changeOf s pen d =
-    record { x = index (d .place .x); y = index (d .place .y); new = blend (s .bits) (placeShift s (index (d .place .x))) pen (d .source) }
+    record {
+      x = index (d .place .x);
+      y = index (d .place .y);
+      new = blend (s .bits) (placeShift s (index (d .place .x))) pen (d .source);
+    }
 
 abbrev pub keep : {A : Type 0} → Bool → A → List A → List A
 keep true a l = a ∷ l

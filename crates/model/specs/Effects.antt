@@ -6,15 +6,17 @@ use lib.ListN.{getD, set}
 use Rattle.model.specs.Ranges.{listed}
 use Rattle.model.specs.Coordinates.{coord, moved}
 use Rattle.model.specs.Bitmaps.{Geometry, Row, bitmapOf}
-use Rattle.model.specs.Record.{Pane, Font, Returns, withPointer, withPosition, withBitmap, withClip, withReturns, withColours, withOperation, withPattern, withSpacing, withOrientation, withFont, withPicking}
+use Rattle.model.specs.Record.{Pane, Clip, Font, Returns, withPointer, withPosition, withBitmap, withClip}
+use Rattle.model.specs.Record.{withReturns, withColours, withOperation, withPattern, withSpacing}
+use Rattle.model.specs.Record.{withOrientation, withFont, withPicking}
 use Rattle.model.specs.declared.Font.the-variants as font
 use Rattle.model.specs.Dots.{Drawing}
 use Rattle.model.specs.Lines.{line, pointAt, rectangle, pairsAt, polyline, triplesAt, scanLines}
-use Rattle.model.specs.Copies.{seen, copy}
+use Rattle.model.specs.Copies.{rectangleOf, seen, copy}
 use Rattle.model.specs.Glyphs.{descriptor, string}
 use Rattle.model.specs.Commands.{Command}
 use Rattle.model.specs.declared.Command.the-variants as command
-use Rattle.model.specs.Faults.{block, sourceBitmap}
+use Rattle.model.specs.Faults.{sourceBitmap}
 
 pub data Effect : Type 0 where
   becomes : Pane → Effect
@@ -36,45 +38,59 @@ abbrev pub fontOf : Bool → ℕ → Font
 fontOf false a = font.Word a
 fontOf true a = font.Byte a
 
--- by the pane's geometry and row, its record, what it shows of its pixels, its store, and the address after the command
+-- "the whole bitmap"
+abbrev pub wholeClip : ℕ → ℕ → Clip
+wholeClip xmax ymax = record { xmin = 0; ymin = 0; xmax = xmax; ymax = ymax }
+
+-- by the pane's geometry and row, its record, what it shows of its pixels, its store, and the address after
+-- the command
 unfoldable pub effectOf : Geometry → Row → Pane → (ℕ → ℕ → ℕ) → List ℕ → ℕ → Command → Effect
 -- "LINK sets the pointer"
-effectOf g r p look store next (command.Link a) = becomes (withPointer p a)
+effectOf g r p pixelOf store next (command.Link a) = becomes (withPointer p a)
 -- "the pointer goes on"
-effectOf g r p look store next command.Nop = becomes (withPointer p next)
-effectOf g r p look store next (command.DefTexture pattern t) = becomes (withPointer (withPattern p pattern t) next)
-effectOf g r p look store next (command.DefCharSet base t) = becomes (withPointer (withFont p (fontOf t base)) next)
-effectOf g r p look store next (command.Call a) = becomes (withPointer (withReturns p (keptOne (p .returns) next)) a)
-effectOf g r p look store next command.Return =
+effectOf g r p pixelOf store next command.Nop = becomes (withPointer p next)
+effectOf g r p pixelOf store next (command.DefTexture pattern t) =
+    becomes (withPointer (withPattern p pattern t) next)
+effectOf g r p pixelOf store next (command.DefCharSet base t) =
+    becomes (withPointer (withFont p (fontOf t base)) next)
+effectOf g r p pixelOf store next (command.Call a) =
+    becomes (withPointer (withReturns p (keptOne (p .returns) next)) a)
+effectOf g r p pixelOf store next command.Return =
     becomes (withPointer (withReturns p (withoutLatest (p .returns))) (latest (p .returns)))
 -- "It sets the clip to the whole bitmap"
-effectOf g r p look store next (command.DefBitmap a xmax ymax b) =
-    becomes (withPointer (withClip (withBitmap p (bitmapOf a xmax ymax b)) (record { xmin = 0; ymin = 0; xmax = xmax; ymax = ymax })) next)
-effectOf g r p look store next (command.DefColors fore back) = becomes (withPointer (withColours p fore back) next)
+effectOf g r p pixelOf store next (command.DefBitmap a xmax ymax b) =
+    becomes (withPointer (withClip (withBitmap p (bitmapOf a xmax ymax b)) (wholeClip xmax ymax)) next)
+effectOf g r p pixelOf store next (command.DefColors fore back) = becomes (withPointer (withColours p fore back) next)
 -- "the low four bits of the code count"
-effectOf g r p look store next (command.DefLogicalOp mask code) = becomes (withPointer (withOperation p (code % 16) mask) next)
+effectOf g r p pixelOf store next (command.DefLogicalOp mask code) =
+    becomes (withPointer (withOperation p (code % 16) mask) next)
 -- "ENTER_PICK clears it; EXIT_PICK keeps it"
-effectOf g r p look store next command.EnterPick = becomes (withPointer (withPicking p true false) next)
-effectOf g r p look store next command.ExitPick = becomes (withPointer (withPicking p false (p .flags .pick)) next)
-effectOf g r p look store next (command.DefClipRect xmin ymin xmax ymax) =
+effectOf g r p pixelOf store next command.EnterPick = becomes (withPointer (withPicking p true false) next)
+effectOf g r p pixelOf store next command.ExitPick = becomes (withPointer (withPicking p false (p .flags .pick)) next)
+effectOf g r p pixelOf store next (command.DefClipRect xmin ymin xmax ymax) =
     becomes (withPointer (withClip p (record { xmin = xmin; ymin = ymin; xmax = xmax; ymax = ymax })) next)
-effectOf g r p look store next (command.DefSpace spacing) = becomes (withPointer (withSpacing p spacing) next)
+effectOf g r p pixelOf store next (command.DefSpace spacing) = becomes (withPointer (withSpacing p spacing) next)
 -- "DEF_CHAR_ORIENT has the path in bits 9 and 8 of its word, the rotation in bits 1 and 0"
-effectOf g r p look store next (command.DefCharOrient orientation) =
+effectOf g r p pixelOf store next (command.DefCharOrient orientation) =
     becomes (withPointer (withOrientation p (orientation / 256 % 4) (orientation % 4)) next)
-effectOf g r p look store next (command.AbsMov x y) = becomes (withPointer (withPosition p (record { x = x; y = y })) next)
-effectOf g r p look store next (command.RelMov dx dy) =
+effectOf g r p pixelOf store next (command.AbsMov x y) =
+    becomes (withPointer (withPosition p (record { x = x; y = y })) next)
+effectOf g r p pixelOf store next (command.RelMov dx dy) =
     becomes (withPointer (withPosition p (moved (p .position) (coord dx) (coord dy))) next)
 -- "POINT moves by (dx,dy) and draws one pixel"
-effectOf g r p look store next (command.Point dx dy) = draws (pointAt (p .pen) (moved (p .position) (coord dx) (coord dy)))
-effectOf g r p look store next (command.Line dx dy) = draws (line (p .pen) (p .position) (coord dx) (coord dy))
-effectOf g r p look store next (command.Rect dx dy) = draws (rectangle (p .pen) (p .position) (coord dx) (coord dy))
-effectOf g r p look store next (command.BitBlt x y dx dy) =
-    draws (copy (seen g r look store (p .bitmap)) (p .text .spacing) (p .position) (block x y dx dy))
-effectOf g r p look store next (command.Polyline a n) = draws (polyline (p .pen) (p .position) (pairsAt store a n))
+effectOf g r p pixelOf store next (command.Point dx dy) =
+    draws (pointAt (p .pen) (moved (p .position) (coord dx) (coord dy)))
+effectOf g r p pixelOf store next (command.Line dx dy) = draws (line (p .pen) (p .position) (coord dx) (coord dy))
+effectOf g r p pixelOf store next (command.Rect dx dy) =
+    draws (rectangle (p .pen) (p .position) (coord dx) (coord dy))
+effectOf g r p pixelOf store next (command.BitBlt b) =
+    draws (copy (seen g r pixelOf store (p .bitmap)) (p .text .spacing) (p .position) (rectangleOf b))
+effectOf g r p pixelOf store next (command.Polyline a n) = draws (polyline (p .pen) (p .position) (pairsAt store a n))
 -- "transparency is that of CHAR's opcode where section 2.10.6 gives one"
-effectOf g r p look store next (command.Char a n t) =
+effectOf g r p pixelOf store next (command.Char a n t) =
     draws (string (p .pen) t (p .text) store (p .position) (listed 0 n (descriptor (p .text .font) store a)))
-effectOf g r p look store next (command.BitBltM a xmax ymax x y dx dy) =
-    draws (copy (seen g r look store (sourceBitmap g r p a xmax ymax)) (p .text .spacing) (p .position) (block x y dx dy))
-effectOf g r p look store next (command.ScanLines a n) = draws (scanLines (p .pen) (p .position) (triplesAt store a n))
+effectOf g r p pixelOf store next (command.BitBltM a xmax ymax b) =
+    draws (copy (seen g r pixelOf store (sourceBitmap g r p a xmax ymax)) (p .text .spacing) (p .position)
+    (rectangleOf b))
+effectOf g r p pixelOf store next (command.ScanLines a n) =
+    draws (scanLines (p .pen) (p .position) (triplesAt store a n))

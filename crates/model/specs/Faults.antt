@@ -1,18 +1,19 @@
--- The faults of a command (01, "Faults, in the order written within a command"): what is checked before anything is done. No pixel is looked at.
+-- The faults of a command (01, "Faults, in the order written within a command"): what is checked before
+-- anything is done. No pixel is looked at.
 use Prim.Native.Nat.{ℕ, _+_, _*_, _%_}
 use mathlib.Core.List.{List}
 use mathlib.Core.Bool.{Bool, true, false, cond, not, _&&_, _||_}
 use lib.Dec.{ltb, leb, eqb}
 use lib.ListN.{getD}
 use Rattle.model.specs.Ranges.{anyBelow}
-use Rattle.model.specs.Numbers.{faultBitmap, faultNoBitmap, faultClip, faultData, faultCall, faultReturn, faultNoFont, faultCopy}
+use Rattle.model.specs.Numbers.{faultBitmap, faultNoBitmap, faultClip, faultData, faultCall, faultReturn}
+use Rattle.model.specs.Numbers.{faultNoFont, faultCopy}
 use Rattle.model.specs.Words.{wordAt}
-use Rattle.model.specs.Coordinates.{coord}
 use Rattle.model.specs.Bitmaps.{Geometry, Row, Bitmap, surfaceOf, bitmapOf, ruleBroken, touches}
 use Rattle.model.specs.declared.Bitmap.the-variants as bitmap
 use Rattle.model.specs.Record.{Pane, Clip, Font}
 use Rattle.model.specs.declared.Font.the-variants as font
-use Rattle.model.specs.Copies.{Block, blockBad, sharing}
+use Rattle.model.specs.Copies.{Rectangle, rectangleOf, blockBad, sharing}
 use Rattle.model.specs.Glyphs.{offsetWord, descriptor, heightOf}
 use Rattle.model.specs.Commands.{Command}
 use Rattle.model.specs.declared.Command.the-variants as command
@@ -24,8 +25,8 @@ noBitmap bitmap.Absent = true
 noBitmap (bitmap.Pane xmax ymax b) = false
 noBitmap (bitmap.Store a xmax ymax b) = false
 
--- some value of a clip is above these; a negative coordinate, read as its pattern, is above 7FFF hex, and so above the xmax and ymax of a bitmap
--- that keeps DEF_BITMAP's rule
+-- some value of a clip is above these; a negative coordinate, read as its pattern, is above 7FFF hex, and so
+-- above the xmax and ymax of a bitmap that keeps DEF_BITMAP's rule
 abbrev pub clipBeyond : ℕ → ℕ → Clip → Bool
 clipBeyond xmax ymax c = ltb xmax (c .xmin) || (ltb ymax (c .ymin) || (ltb xmax (c .xmax) || ltb ymax (c .ymax)))
 
@@ -41,8 +42,9 @@ clipOutside (bitmap.Store a xmax ymax b) c = clipBeyond xmax ymax c
 abbrev pub bytesBad : Row → Bitmap → ℕ → ℕ → Bool
 bytesBad r active a n = not (eqb n 0) && (ltb (r .len) (a + n) || touches active a n)
 
--- "25 an array, string, offset word or descriptor at an odd address (byte strings may be odd), outside the store or touching the active
--- bitmap (an empty array or word string is checked for oddness alone, an empty byte string for nothing)": n bytes from a on
+-- "25 an array, string, offset word or descriptor at an odd address (byte strings may be odd), outside the
+-- store or touching the active bitmap (an empty array or word string is checked for oddness alone, an empty
+-- byte string for nothing)": n bytes from a on
 unfoldable pub arrayBad : Row → Bitmap → ℕ → ℕ → Bool
 arrayBad r active a n = eqb (a % 2) 1 || bytesBad r active a n
 
@@ -61,13 +63,10 @@ stringBad r active store (font.Byte base) a n =
 -- the descriptors, each 1 + height words
 unfoldable pub descriptorsBad : Row → Bitmap → List ℕ → Font → ℕ → ℕ → Bool
 descriptorsBad r active store f a n =
-    anyBelow n (λ k. arrayBad r active (descriptor f store a k) (2 + 2 * heightOf (wordAt store (descriptor f store a k))))
+    anyBelow n (λ k. arrayBad r active (descriptor f store a k)
+    (2 + 2 * heightOf (wordAt store (descriptor f store a k))))
 
 -- ## Copies
-
--- a source rectangle by its words
-abbrev pub block : ℕ → ℕ → ℕ → ℕ → Block
-block x y dx dy = record { sx = coord x; sy = coord y; dx = coord dx; dy = coord dy }
 
 -- the bits per pixel of the active bitmap
 abbrev pub activeBits : Geometry → Row → Pane → ℕ
@@ -78,7 +77,7 @@ abbrev pub sourceBitmap : Geometry → Row → Pane → ℕ → ℕ → ℕ → 
 sourceBitmap g r p a xmax ymax = bitmapOf a xmax ymax (activeBits g r p)
 
 -- BIT_BLT_M's faults after 23, by its source bitmap and rectangle
-abbrev pub copyFault : Geometry → Row → Bitmap → Bitmap → Block → ℕ
+abbrev pub copyFault : Geometry → Row → Bitmap → Bitmap → Rectangle → ℕ
 copyFault g r active source c =
     cond (ruleBroken g r source) faultBitmap
     (cond (blockBad (surfaceOf g r source) c || sharing active source (surfaceOf g r source) c) faultCopy 0)
@@ -116,14 +115,15 @@ faultOf g r p store (command.RelMov dx dy) = 0
 faultOf g r p store (command.Point dx dy) = drawFault p 0
 faultOf g r p store (command.Line dx dy) = drawFault p 0
 faultOf g r p store (command.Rect dx dy) = drawFault p 0
-faultOf g r p store (command.BitBlt x y dx dy) =
-    drawFault p (cond (blockBad (surfaceOf g r (p .bitmap)) (block x y dx dy)) faultCopy 0)
+faultOf g r p store (command.BitBlt b) =
+    drawFault p (cond (blockBad (surfaceOf g r (p .bitmap)) (rectangleOf b)) faultCopy 0)
 -- pairs of words
 faultOf g r p store (command.Polyline a n) = drawFault p (cond (arrayBad r (p .bitmap) a (4 * n)) faultData 0)
 faultOf g r p store (command.Char a n t) =
     drawFault p (cond (noFont (p .text .font)) faultNoFont
-    (cond (stringBad r (p .bitmap) store (p .text .font) a n || descriptorsBad r (p .bitmap) store (p .text .font) a n) faultData 0))
-faultOf g r p store (command.BitBltM a xmax ymax x y dx dy) =
-    drawFault p (copyFault g r (p .bitmap) (sourceBitmap g r p a xmax ymax) (block x y dx dy))
+    (cond (stringBad r (p .bitmap) store (p .text .font) a n
+    || descriptorsBad r (p .bitmap) store (p .text .font) a n) faultData 0))
+faultOf g r p store (command.BitBltM a xmax ymax b) =
+    drawFault p (copyFault g r (p .bitmap) (sourceBitmap g r p a xmax ymax) (rectangleOf b))
 -- triples of words
 faultOf g r p store (command.ScanLines a n) = drawFault p (cond (arrayBad r (p .bitmap) a (6 * n)) faultData 0)

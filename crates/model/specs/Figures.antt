@@ -1,5 +1,5 @@
--- The bench figures P1 to P12 (01, "Bench figures") as one table. That all of it holds is a theorem (proofs/Figures.antt), and the contract of
--- `figures_hold`.
+-- The bench figures P1 to P12 (01, "Bench figures") as one table. That all of it holds is a theorem
+-- (proofs/Figures.antt), and the contract of `figures_hold`.
 use mathlib.Core.Path.{_≡_}
 use mathlib.Core.Bool.{false}
 use mathlib.Core.List.{List, [], _∷_, _++_}
@@ -14,7 +14,7 @@ use Rattle.model.specs.declared.Source.the-variants.{Copied}
 use Rattle.model.specs.Dots.{changesOf}
 use Rattle.model.specs.Lines.{major, offsetY, lineDots}
 use Rattle.model.specs.Copies.{copyDots}
-use Rattle.model.specs.Glyphs.{turned, descriptor}
+use Rattle.model.specs.Glyphs.{rotated, descriptor}
 use Rattle.model.specs.declared.Font.the-variants as font
 
 -- −k
@@ -58,7 +58,8 @@ abbrev pub copiedRow : ℕ → ℕ → List ℕ → List ℕ
 copiedRow last x store =
     changes (storeSurface 0 3 0 4)
     (changesOf (storeSurface 0 3 0 4) (record { xmin = 0; ymin = 0; xmax = 3; ymax = 0 }) (masked 0xFFFF)
-    (copyDots (pixels (storeSurface 0 3 0 4) store) (at (pos x) (pos 0)) (record { sx = pos 0; sy = pos 0; dx = pos last; dy = pos 0 })))
+    (copyDots (pixels (storeSurface 0 3 0 4) store) (at (pos x) (pos 0))
+    (record { sx = pos 0; sy = pos 0; dx = pos last; dy = pos 0 })))
     store
 
 abbrev pub Holds : Figure → Type 0
@@ -68,9 +69,10 @@ Holds (move x dx z) = coord (moved (point (at x (pos 0))) dx (pos 0) .x) ≡ z
 Holds (lies b c byte bit) = placeBit (storeSurface 0 63 0 b) c 0 ≡ 8 * byte + bit
 Holds (words w b n) = rowWords w b ≡ n
 Holds (replaced old source mask new) = blend 4 0 (masked mask) (Copied source) old ≡ new
-Holds (cell i j p ps) = listed 0 4 (λ r. turned r p i j) ≡ ps
+Holds (cell i j p ps) = listed 0 4 (λ r. rotated r p i j) ≡ ps
 Holds (copying last x from to) = four (copiedRow last x (packed from)) ≡ to
-Holds (names base code word a) = descriptor (font.Byte base) (code ∷ replicate (base + 2 * code - 1) 0 ++ (word ∷ 0 ∷ [])) 0 0 ≡ a
+Holds (names base code word a) =
+    descriptor (font.Byte base) (code ∷ replicate (base + 2 * code - 1) 0 ++ (word ∷ 0 ∷ [])) 0 0 ≡ a
 
 abbrev pub All : List Figure → Type 0
 All [] = Unit {0}
@@ -99,7 +101,8 @@ table =
     -- P9
     ∷ replaced 0b1001 0b0110 0b0011 0b1010
     -- P10
-    ∷ cell 2 1 (at (pos 10) (pos 10)) (at (pos 12) (pos 11) ∷ at (pos 11) (pos 8) ∷ at (pos 8) (pos 9) ∷ at (pos 9) (pos 12) ∷ [])
+    ∷ cell 2 1 (at (pos 10) (pos 10))
+    (at (pos 12) (pos 11) ∷ at (pos 11) (pos 8) ∷ at (pos 8) (pos 9) ∷ at (pos 9) (pos 12) ∷ [])
     -- P11
     ∷ copying 2 1 (1 ∷ 2 ∷ 3 ∷ 4 ∷ []) (1 ∷ 1 ∷ 2 ∷ 3 ∷ [])
     -- P12

@@ -9,7 +9,7 @@ use Rattle.model.specs.Ranges.{listed, joined}
 use Rattle.model.specs.Words.{bit, wordAt}
 use Rattle.model.specs.Coordinates.{Place, Point, coord, offset, place, moved}
 use Rattle.model.specs.Pixels.{Pen, penSource}
-use Rattle.model.specs.Dots.{Dot, dot, Drawing, drawing, before}
+use Rattle.model.specs.Dots.{Dot, dot, Drawing, drawing, prepended}
 pub use Rattle.model.specs.declared.Text.{Text}
 pub use Rattle.model.specs.declared.Font.{Font}
 use Rattle.model.specs.declared.Font.the-variants as font
@@ -24,7 +24,8 @@ baseOf (font.Byte a) = a
 abbrev pub offsetWord : ℕ → ℕ → ℕ
 offsetWord base c = base + 2 * c
 
--- the selector of character k of a string: "in word mode (0A hex) a selector v"; in byte mode the word of its code
+-- the selector of character k of a string: "in word mode (0A hex) a selector v"; in byte mode the word of its
+-- code
 unfoldable pub selector : Font → List ℕ → ℕ → ℕ → ℕ
 selector font.Absent store string k = 0
 selector (font.Word base) store string k = wordAt store (string + 2 * k)
@@ -34,7 +35,8 @@ selector (font.Byte base) store string k = wordAt store (offsetWord base (getD s
 unfoldable pub descriptor : Font → List ℕ → ℕ → ℕ → ℕ
 descriptor f store string k = baseOf f + 2 * selector f store string k
 
--- a descriptor's first word: "T in bit 15, S in bit 14, height − 1 in bits 11 to 8, width − 1 in bits 3 to 0, the rest ignored"
+-- a descriptor's first word: "T in bit 15, S in bit 14, height − 1 in bits 11 to 8, width − 1 in bits 3 to 0,
+-- the rest ignored"
 abbrev pub trapOf : ℕ → Bool
 trapOf w = bit w 15
 
@@ -52,8 +54,8 @@ unfoldable pub cellBit : List ℕ → ℕ → ℕ → ℕ → ℕ → Bool
 cellBit store a width i j = bit (wordAt store (a + 2 + 2 * j)) (width - 1 - i)
 
 -- "Cell (i column, j row) falls at rotation 0, 90, 180, 270 on (x+i,y+j), (x+j,y−i), (x−i,y−j), (x−j,y+i)"
-unfoldable pub turned : ℕ → Place → ℕ → ℕ → Place
-turned rotation p i j =
+unfoldable pub rotated : ℕ → Place → ℕ → ℕ → Place
+rotated rotation p i j =
     cond (eqb rotation 0) (offset p (pos i) (pos j))
     (cond (eqb rotation 1) (offset p (pos j) (negℤ (pos i)))
     (cond (eqb rotation 2) (offset p (negℤ (pos i)) (negℤ (pos j)))
@@ -63,7 +65,8 @@ turned rotation p i j =
 unfoldable pub glyphDots : Pen → Bool → ℕ → List ℕ → ℕ → Place → List Dot
 glyphDots pen transparent rotation store a p =
     joined 0 (heightOf (wordAt store a))
-    (λ j. listed 0 (widthOf (wordAt store a)) (λ i. dot (turned rotation p i j) (penSource pen transparent (cellBit store a (widthOf (wordAt store a)) i j))))
+    (λ j. listed 0 (widthOf (wordAt store a))
+    (λ i. dot (rotated rotation p i j) (penSource pen transparent (cellBit store a (widthOf (wordAt store a)) i j))))
 
 -- "by spacing plus the width, or the height where path and rotation differ by 90 or 270"
 unfoldable pub advance : Text → ℕ → ℤ
@@ -90,4 +93,5 @@ unfoldable pub string : Pen → Bool → Text → List ℕ → Point → List �
 string pen transparent t store p [] = drawing [] p
 string pen transparent t store p (a ∷ as′) =
     trapping (trapOf (wordAt store a))
-    (before (glyphDots pen transparent (t .rotation) store a (place p)) (string pen transparent t store (passed t (wordAt store a) p) as′))
+    (prepended (glyphDots pen transparent (t .rotation) store a (place p))
+    (string pen transparent t store (passed t (wordAt store a) p) as′))

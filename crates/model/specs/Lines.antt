@@ -8,7 +8,7 @@ use Rattle.model.specs.Ranges.{listed}
 use Rattle.model.specs.Words.{wordAt}
 use Rattle.model.specs.Coordinates.{Place, Point, coord, signAs, offset, place, moved, samePlace}
 use Rattle.model.specs.Pixels.{Pen, patternSource}
-use Rattle.model.specs.Dots.{Dot, dot, Drawing, drawing, before, keep}
+use Rattle.model.specs.Dots.{Dot, dot, Drawing, drawing, prepended, keep}
 
 -- ## LINE (dx,dy)
 
@@ -37,7 +37,8 @@ offsetY dx dy i = signAs dy (cond (flat dx dy) (minorAt (major dx dy) (minor dx 
 
 -- "For i = 0 to n": the dots of a line
 unfoldable pub lineDots : Pen → Place → ℤ → ℤ → List Dot
-lineDots pen p dx dy = listed 0 (suc (major dx dy)) (λ i. dot (offset p (offsetX dx dy i) (offsetY dx dy i)) (patternSource pen i))
+lineDots pen p dx dy =
+    listed 0 (suc (major dx dy)) (λ i. dot (offset p (offsetX dx dy i) (offsetY dx dy i)) (patternSource pen i))
 
 -- "The position ends at the far end"
 unfoldable pub line : Pen → Point → ℤ → ℤ → Drawing
@@ -51,18 +52,20 @@ pointAt pen p = drawing (dot (place p) (patternSource pen 0) ∷ []) p
 
 -- ## POLYLINE
 
-pub record Move : Type 0 where
+pub record Pair : Type 0 where
   pub dx : ℤ
   pub dy : ℤ
 
 -- the n pairs of the array at an address
-unfoldable pub pairsAt : List ℕ → ℕ → ℕ → List Move
-pairsAt store a n = listed 0 n (λ k. record { dx = coord (wordAt store (a + 4 * k)); dy = coord (wordAt store (a + 4 * k + 2)) })
+unfoldable pub pairsAt : List ℕ → ℕ → ℕ → List Pair
+pairsAt store a n =
+    listed 0 n (λ k. record { dx = coord (wordAt store (a + 4 * k)); dy = coord (wordAt store (a + 4 * k + 2)) })
 
 -- "POLYLINE draws its N pairs as LINEs, the pattern begun anew at each"
-unfoldable pub polyline : Pen → Point → List Move → Drawing
+unfoldable pub polyline : Pen → Point → List Pair → Drawing
 polyline pen p [] = drawing [] p
-polyline pen p (m ∷ ms) = before (lineDots pen (place p) (m .dx) (m .dy)) (polyline pen (moved p (m .dx) (m .dy)) ms)
+polyline pen p (m ∷ ms) =
+    prepended (lineDots pen (place p) (m .dx) (m .dy)) (polyline pen (moved p (m .dx) (m .dy)) ms)
 
 -- ## RECT
 
@@ -84,7 +87,8 @@ unfoldable pub visited : Place → List Place → Bool
 visited p [] = false
 visited p (q ∷ qs) = samePlace p q || visited p qs
 
--- "each pixel once, ..; a pixel already drawn is passed over": the places not among those seen, each the first time
+-- "each pixel once, ..; a pixel already drawn is passed over": the places not among those seen, each the
+-- first time
 unfoldable pub once : List Place → List Place → List Place
 once seen [] = []
 once seen (p ∷ ps) = keep (cond (visited p seen) false true) p (once (p ∷ seen) ps)
@@ -100,18 +104,24 @@ rectangle pen p dx dy = drawing (patterned pen 0 (once [] (walk (place p) dx dy)
 
 -- ## SCAN_LINES
 
-pub record Span : Type 0 where
+pub record Triple : Type 0 where
   pub dx : ℤ
   pub dy : ℤ
   pub len : ℤ
 
 -- the n triples of the array at an address
-unfoldable pub triplesAt : List ℕ → ℕ → ℕ → List Span
+unfoldable pub triplesAt : List ℕ → ℕ → ℕ → List Triple
 triplesAt store a n =
-    listed 0 n (λ k. record { dx = coord (wordAt store (a + 6 * k)); dy = coord (wordAt store (a + 6 * k + 2)); len = coord (wordAt store (a + 6 * k + 4)) })
+    listed 0 n (λ k. record {
+      dx = coord (wordAt store (a + 6 * k));
+      dy = coord (wordAt store (a + 6 * k + 2));
+      len = coord (wordAt store (a + 6 * k + 4));
+    })
 
--- "each triple dx, dy, length moves by (dx,dy) and draws a horizontal LINE by length; the position stays at that line's start"
-unfoldable pub scanLines : Pen → Point → List Span → Drawing
+-- "each triple dx, dy, length moves by (dx,dy) and draws a horizontal LINE by length; the position stays at
+-- that line's start"
+unfoldable pub scanLines : Pen → Point → List Triple → Drawing
 scanLines pen p [] = drawing [] p
 scanLines pen p (s ∷ ss) =
-    before (lineDots pen (place (moved p (s .dx) (s .dy))) (s .len) (pos 0)) (scanLines pen (moved p (s .dx) (s .dy)) ss)
+    prepended (lineDots pen (place (moved p (s .dx) (s .dy))) (s .len) (pos 0))
+    (scanLines pen (moved p (s .dx) (s .dy)) ss)

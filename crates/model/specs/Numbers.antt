@@ -21,7 +21,8 @@ statusFaulted = 3
 abbrev pub faultOpcode : ℕ
 faultOpcode = 20
 
--- "A pointer that is odd or whose word is outside the store gives fault 21"; "Parameter words outside the store give 21"
+-- "A pointer that is odd or whose word is outside the store gives fault 21"; "Parameter words outside the
+-- store give 21"
 abbrev pub faultFetch : ℕ
 faultFetch = 21
 

@@ -19,16 +19,18 @@ penSource pen false false = source.Colour (pen .back)
 abbrev pub patternSource : Pen → ℕ → Source
 patternSource pen i = penSource pen (pen .transparent) (bit (pen .pattern) (15 - i % 16))
 
--- "Colours .. are used at the bits where the pixel lies in its word": bit i of a pixel's source, the pixel at a shift
+-- "Colours .. are used at the bits where the pixel lies in its word": bit i of a pixel's source, the pixel at
+-- a shift
 abbrev pub sourceBit : Source → ℕ → ℕ → Bool
 sourceBit source.Nothing shift i = false
 sourceBit (source.Colour w) shift i = bit w (shift + i)
 sourceBit (source.Copied v) shift i = bit v i
 
--- "Each bit whose mask is 1 becomes the operation of source and old bit", the mask "used at the bits where the pixel lies in its word":
--- the new value of a pixel of b bits at a shift of its word
+-- "Each bit whose mask is 1 becomes the operation of source and old bit", the mask "used at the bits where
+-- the pixel lies in its word": the new value of a pixel of b bits at a shift of its word
 unfoldable pub blend : ℕ → ℕ → Pen → Source → ℕ → ℕ
-blend b shift pen s old = num b (λ i. newBit (pen .op) (bit (pen .mask) (shift + i)) (sourceBit s shift i) (bit old i))
+blend b shift pen s old =
+    num b (λ i. newBit (pen .op) (bit (pen .mask) (shift + i)) (sourceBit s shift i) (bit old i))
 
 -- a change to one pixel of a surface: from its old value to its new one
 pub record Change : Type 0 where
@@ -39,7 +41,8 @@ pub record Change : Type 0 where
 -- one pixel of the buffer changed, all other bits kept; a change outside the surface is none
 unfoldable pub change : Surface → Change → List ℕ → List ℕ
 change s c buffer =
-    cond (inside s (c .x) (c .y)) (putField buffer (placeBit s (c .x) (c .y)) (s .bits) (c .new (pixels s buffer (c .x) (c .y)))) buffer
+    cond (inside s (c .x) (c .y)) (putField buffer (placeBit s (c .x) (c .y)) (s .bits)
+    (c .new (pixels s buffer (c .x) (c .y)))) buffer
 
 -- a list of changes, one after the other
 unfoldable pub changes : Surface → List Change → List ℕ → List ℕ

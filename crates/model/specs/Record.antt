@@ -28,9 +28,9 @@ noClip = record { xmin = 0; ymin = 0; xmax = 0; ymax = 0 }
 abbrev pub noReturns : Returns
 noReturns = record { addresses = replicate 8 0; count = 0 }
 
--- "A fresh pane record: status 0, fault 0, pointer 0, position (0,0), no bitmap, clip all 0, both colours 0, operation "replace" (new bit =
--- source bit), colour mask FFFF hex, pattern FFFF hex opaque, spacing 0, path and rotation 0, no font, pick mode off, pick and trap flags 0,
--- no return addresses"
+-- "A fresh pane record: status 0, fault 0, pointer 0, position (0,0), no bitmap, clip all 0, both colours 0,
+-- operation "replace" (new bit = source bit), colour mask FFFF hex, pattern FFFF hex opaque, spacing 0, path
+-- and rotation 0, no font, pick mode off, pick and trap flags 0, no return addresses"
 abbrev pub fresh : Pane
 fresh =
     record {
@@ -60,29 +60,43 @@ noPane =
 
 -- ## A record with one part replaced, all else kept
 
+-- a pane record by its eight parts
+abbrev pub paneOf : Progress → Point → Bitmap → Clip → Pen → Text → Flags → Returns → Pane
+paneOf progress position bitmap clip pen text flags returns =
+    record {
+      progress = progress;
+      position = position;
+      bitmap = bitmap;
+      clip = clip;
+      pen = pen;
+      text = text;
+      flags = flags;
+      returns = returns;
+    }
+
 abbrev pub withProgress : Pane → Progress → Pane
-withProgress p q = record { progress = q; position = p .position; bitmap = p .bitmap; clip = p .clip; pen = p .pen; text = p .text; flags = p .flags; returns = p .returns }
+withProgress p x = paneOf x (p .position) (p .bitmap) (p .clip) (p .pen) (p .text) (p .flags) (p .returns)
 
 abbrev pub withPosition : Pane → Point → Pane
-withPosition p q = record { progress = p .progress; position = q; bitmap = p .bitmap; clip = p .clip; pen = p .pen; text = p .text; flags = p .flags; returns = p .returns }
+withPosition p x = paneOf (p .progress) x (p .bitmap) (p .clip) (p .pen) (p .text) (p .flags) (p .returns)
 
 abbrev pub withBitmap : Pane → Bitmap → Pane
-withBitmap p b = record { progress = p .progress; position = p .position; bitmap = b; clip = p .clip; pen = p .pen; text = p .text; flags = p .flags; returns = p .returns }
+withBitmap p x = paneOf (p .progress) (p .position) x (p .clip) (p .pen) (p .text) (p .flags) (p .returns)
 
 abbrev pub withClip : Pane → Clip → Pane
-withClip p c = record { progress = p .progress; position = p .position; bitmap = p .bitmap; clip = c; pen = p .pen; text = p .text; flags = p .flags; returns = p .returns }
+withClip p x = paneOf (p .progress) (p .position) (p .bitmap) x (p .pen) (p .text) (p .flags) (p .returns)
 
 abbrev pub withPen : Pane → Pen → Pane
-withPen p k = record { progress = p .progress; position = p .position; bitmap = p .bitmap; clip = p .clip; pen = k; text = p .text; flags = p .flags; returns = p .returns }
+withPen p x = paneOf (p .progress) (p .position) (p .bitmap) (p .clip) x (p .text) (p .flags) (p .returns)
 
 abbrev pub withText : Pane → Text → Pane
-withText p t = record { progress = p .progress; position = p .position; bitmap = p .bitmap; clip = p .clip; pen = p .pen; text = t; flags = p .flags; returns = p .returns }
+withText p x = paneOf (p .progress) (p .position) (p .bitmap) (p .clip) (p .pen) x (p .flags) (p .returns)
 
 abbrev pub withFlags : Pane → Flags → Pane
-withFlags p f = record { progress = p .progress; position = p .position; bitmap = p .bitmap; clip = p .clip; pen = p .pen; text = p .text; flags = f; returns = p .returns }
+withFlags p x = paneOf (p .progress) (p .position) (p .bitmap) (p .clip) (p .pen) (p .text) x (p .returns)
 
 abbrev pub withReturns : Pane → Returns → Pane
-withReturns p r = record { progress = p .progress; position = p .position; bitmap = p .bitmap; clip = p .clip; pen = p .pen; text = p .text; flags = p .flags; returns = r }
+withReturns p x = paneOf (p .progress) (p .position) (p .bitmap) (p .clip) (p .pen) (p .text) (p .flags) x
 
 -- ## Parts of parts
 
@@ -97,24 +111,33 @@ ended p = withProgress p (record { status = statusEnded; fault = p .progress .fa
 abbrev pub faulted : Pane → ℕ → Pane
 faulted p f = withProgress p (record { status = statusFaulted; fault = f; pointer = p .progress .pointer })
 
+abbrev pub penOf : ℕ → ℕ → ℕ → ℕ → ℕ → Bool → Pen
+penOf fore back op mask pattern transparent =
+    record { fore = fore; back = back; op = op; mask = mask; pattern = pattern; transparent = transparent }
+
 abbrev pub withColours : Pane → ℕ → ℕ → Pane
-withColours p fore back = withPen p (record { fore = fore; back = back; op = p .pen .op; mask = p .pen .mask; pattern = p .pen .pattern; transparent = p .pen .transparent })
+withColours p fore back =
+    withPen p (penOf fore back (p .pen .op) (p .pen .mask) (p .pen .pattern) (p .pen .transparent))
 
 abbrev pub withOperation : Pane → ℕ → ℕ → Pane
-withOperation p op mask = withPen p (record { fore = p .pen .fore; back = p .pen .back; op = op; mask = mask; pattern = p .pen .pattern; transparent = p .pen .transparent })
+withOperation p op mask =
+    withPen p (penOf (p .pen .fore) (p .pen .back) op mask (p .pen .pattern) (p .pen .transparent))
 
 abbrev pub withPattern : Pane → ℕ → Bool → Pane
 withPattern p pattern transparent =
-    withPen p (record { fore = p .pen .fore; back = p .pen .back; op = p .pen .op; mask = p .pen .mask; pattern = pattern; transparent = transparent })
+    withPen p (penOf (p .pen .fore) (p .pen .back) (p .pen .op) (p .pen .mask) pattern transparent)
+
+abbrev pub textOf : ℕ → ℕ → ℕ → Font → Text
+textOf spacing path rotation f = record { spacing = spacing; path = path; rotation = rotation; font = f }
 
 abbrev pub withSpacing : Pane → ℕ → Pane
-withSpacing p spacing = withText p (record { spacing = spacing; path = p .text .path; rotation = p .text .rotation; font = p .text .font })
+withSpacing p spacing = withText p (textOf spacing (p .text .path) (p .text .rotation) (p .text .font))
 
 abbrev pub withOrientation : Pane → ℕ → ℕ → Pane
-withOrientation p path rotation = withText p (record { spacing = p .text .spacing; path = path; rotation = rotation; font = p .text .font })
+withOrientation p path rotation = withText p (textOf (p .text .spacing) path rotation (p .text .font))
 
 abbrev pub withFont : Pane → Font → Pane
-withFont p f = withText p (record { spacing = p .text .spacing; path = p .text .path; rotation = p .text .rotation; font = f })
+withFont p f = withText p (textOf (p .text .spacing) (p .text .path) (p .text .rotation) f)
 
 abbrev pub withPicking : Pane → Bool → Bool → Pane
 withPicking p picking pick = withFlags p (record { picking = picking; pick = pick; trap = p .flags .trap })

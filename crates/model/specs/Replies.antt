@@ -1,4 +1,5 @@
--- Replies (01, "For those who test a delivery"): what a call answers, in the paper's numbers, and the same of each case of the code's enum.
+-- Replies (01, "For those who test a delivery"): what a call answers, in the paper's numbers, and the same of
+-- each case of the code's enum.
 use Prim.Native.Nat.{ℕ}
 use mathlib.Core.List.{List, [], _∷_, _++_}
 use lib.IntN.{ℤ, pos}
@@ -23,7 +24,8 @@ pub data Response : Type 0 where
 abbrev pub natural : ℕ → Value
 natural n = number (pos n)
 
--- ## "If an answer is an enum, the promises use a definition that states this paper's number and values for each of its cases"
+-- ## "If an answer is an enum, the promises use a definition that states this paper's number
+-- ## and values for each of its cases"
 
 -- "commands done, status, fault"
 abbrev pub ranValues : Ran → List Value
@@ -36,7 +38,8 @@ progressValues p = natural (p .status) ∷ natural (p .fault) ∷ address (p .po
 abbrev pub viewValues : View → List Value
 viewValues v =
     progressValues (v .progress)
-    ++ (number (coord (v .position .x)) ∷ number (coord (v .position .y)) ∷ natural (digit (v .pick)) ∷ natural (digit (v .trap)) ∷ [])
+    ++ (number (coord (v .position .x)) ∷ number (coord (v .position .y)) ∷ natural (digit (v .pick)) ∷ natural
+    (digit (v .trap)) ∷ [])
 
 abbrev pub response : Reply → Response
 response (reply.Refused n) = refusedWith n

@@ -24,21 +24,24 @@ idle p screen store = record { count = 0; hits = 0; pane = p; screen = screen; s
 -- a plan carried out
 abbrev pub carried : Geometry → Row → Plan → List ℕ → Finish
 carried g r plan screen =
-    record { count = plan .counted; hits = plan .hits; pane = plan .pane; screen = changes (paneSurface g r) (plan .drawn) screen; store = plan .store }
+    let shown = changes (paneSurface g r) (plan .drawn) screen in
+    record { count = plan .counted; hits = plan .hits; pane = plan .pane; screen = shown; store = plan .store }
 
 -- one step, carried out
 unfoldable pub stepped : Geometry → Row → Pane → List ℕ → List ℕ → Finish
 stepped g r p screen store = carried g r (step g r p (pixels (paneSurface g r) screen) store) screen
 
 -- so many commands and pixels, and then what follows
-abbrev pub after : ℕ → ℕ → Finish → Finish
-after n h f = record { count = n + f .count; hits = h + f .hits; pane = f .pane; screen = f .screen; store = f .store }
+abbrev pub addCounts : ℕ → ℕ → Finish → Finish
+addCounts n h f =
+    record { count = n + f .count; hits = h + f .hits; pane = f .pane; screen = f .screen; store = f .store }
 
 unfoldable pub follow : (Pane → List ℕ → List ℕ → Finish) → Finish → Finish
-follow rest a = after (a .count) (a .hits) (rest (a .pane) (a .screen) (a .store))
+follow rest a = addCounts (a .count) (a .hits) (rest (a .pane) (a .screen) (a .store))
 
 -- "A spent budget leaves status 1, even before an end word"
 unfoldable pub runs : Geometry → Row → ℕ → Pane → List ℕ → List ℕ → Finish
 runs g r zero p screen store = idle p screen store
 runs g r (suc n) p screen store =
-    cond (eqb (p .progress .status) statusRunning) (follow (λ q s t. runs g r n q s t) (stepped g r p screen store)) (idle p screen store)
+    cond (eqb (p .progress .status) statusRunning) (follow (λ q s t. runs g r n q s t) (stepped g r p screen store))
+    (idle p screen store)

@@ -2,10 +2,12 @@
 use Prim.Native.Nat.{ℕ, _+_, _*_, _%_}
 use mathlib.Core.List.{List}
 use mathlib.Core.Bool.{Bool, false, cond, not, _||_, _&&_}
-use lib.Dec.{ltb, eqb}
+use lib.Dec.{ltb, leb, eqb}
 use lib.ListN.{getD}
 use Rattle.model.specs.Ranges.{anyBelow, outOf}
-use Rattle.model.specs.Numbers.{statusFaulted, refuseGeometry, refuseScreen, refuseRectangle, refuseStore, refuseOverlap, refuseShared}
+use Rattle.model.specs.Numbers.{statusFaulted, refuseGeometry, refuseScreen, refuseRectangle, refuseStore}
+use Rattle.model.specs.Numbers.{refuseOverlap, refuseShared}
+use Rattle.model.specs.Words.{addressEnd}
 use Rattle.model.specs.Bitmaps.{Geometry, Row, isDepth, rowWords, ruleBroken, shareSpan}
 use Rattle.model.specs.Record.{Pane, Progress, Font, noPane}
 use Rattle.model.specs.declared.Font.the-variants as font
@@ -23,9 +25,11 @@ paneAt panes k = getD panes k noPane
 
 -- ## 6 to 11
 
--- "6 geometry or row count out of range": "width and height 1 to 4,096 pixels, depth b of 1, 2, 4 or 8 bits"; "The table has 1 to 8 rows"
+-- "6 geometry or row count out of range": "width and height 1 to 4,096 pixels, depth b of 1, 2, 4 or 8 bits";
+-- "The table has 1 to 8 rows"
 unfoldable pub geometryBad : Geometry → ℕ → Bool
-geometryBad g count = outOf 1 4096 (g .width) || (outOf 1 4096 (g .height) || (not (isDepth (g .depth)) || outOf 1 8 count))
+geometryBad g count =
+    outOf 1 4096 (g .width) || (outOf 1 4096 (g .height) || (not (isDepth (g .depth)) || outOf 1 8 count))
 
 -- the bytes of the screen's rows
 abbrev pub screenBytes : Geometry → ℕ
@@ -34,7 +38,8 @@ screenBytes g = 2 * (g .height * rowWords (g .width) (g .depth))
 -- "8 a rectangle empty or beyond the screen"
 unfoldable pub rectangleBad : Geometry → Row → Bool
 rectangleBad g r =
-    eqb (r .width) 0 || (eqb (r .height) 0 || (ltb (g .width) (r .left + r .width) || ltb (g .height) (r .top + r .height)))
+    eqb (r .width) 0 || (eqb (r .height) 0 || (ltb (g .width) (r .left + r .width) || ltb (g .height)
+    (r .top + r .height)))
 
 abbrev pub mostStore : ℕ
 mostStore = 2097152
@@ -45,7 +50,8 @@ storeBad stores r = eqb (r .len % 2) 1 || (ltb mostStore (r .len) || ltb stores 
 
 -- "10 two rectangles share a pixel"
 unfoldable pub sharePixel : Row → Row → Bool
-sharePixel a b = shareSpan (a .left) (a .width) (b .left) (b .width) && shareSpan (a .top) (a .height) (b .top) (b .height)
+sharePixel a b =
+    shareSpan (a .left) (a .width) (b .left) (b .width) && shareSpan (a .top) (a .height) (b .top) (b .height)
 
 -- "11 two stores share a byte"
 unfoldable pub shareByte : Row → Row → Bool
@@ -55,7 +61,8 @@ shareByte a b = shareSpan (a .start) (a .len) (b .start) (b .len)
 abbrev pub anyPair : ℕ → (Row → Row → Bool) → List Row → Bool
 anyPair count f rows = anyBelow count (λ j. anyBelow j (λ i. f (rowAt rows i) (rowAt rows j)))
 
--- the first of set-up's refusals that applies, by geometry, table and the lengths of the two buffers; 0 for none
+-- the first of set-up's refusals that applies, by geometry, table and the lengths of the two buffers; 0 for
+-- none
 unfoldable pub checks : Geometry → ℕ → List Row → ℕ → ℕ → ℕ
 checks g count rows screen stores =
     cond (geometryBad g count) refuseGeometry
@@ -70,20 +77,21 @@ checks g count rows screen stores =
 -- "a status above 3; a fault outside 20 to 29 at status 3 or not 0 elsewhere"
 unfoldable pub progressBad : Progress → Bool
 progressBad p =
-    ltb 3 (p .status)
-    || ((eqb (p .status) statusFaulted && outOf 20 29 (p .fault)) || (not (eqb (p .status) statusFaulted) && not (eqb (p .fault) 0)))
+    ltb statusFaulted (p .status)
+    || ((eqb (p .status) statusFaulted && outOf 20 29 (p .fault)) ||
+    (not (eqb (p .status) statusFaulted) && not (eqb (p .fault) 0)))
 
 -- "a font base odd or above 22 bits"
 abbrev pub baseBad : ℕ → Bool
-baseBad a = eqb (a % 2) 1 || ltb 0x3FFFFF a
+baseBad a = eqb (a % 2) 1 || leb addressEnd a
 
 abbrev pub fontBad : Font → Bool
 fontBad font.Absent = false
 fontBad (font.Word a) = baseBad a
 fontBad (font.Byte a) = baseBad a
 
--- "12 the pane record has .. a bitmap breaking DEF_BITMAP's rule; a clip value outside the bitmap, or not 0 without one; ..; an operation
--- above 15; a path or rotation above 3; over eight return addresses"
+-- "12 the pane record has .. a bitmap breaking DEF_BITMAP's rule; a clip value outside the bitmap, or not 0
+-- without one; ..; an operation above 15; a path or rotation above 3; over eight return addresses"
 unfoldable pub paneBad : Geometry → Row → Pane → Bool
 paneBad g r p =
     progressBad (p .progress)

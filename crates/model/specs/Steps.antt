@@ -1,5 +1,5 @@
--- One command (01, "One command"): judged, then planned. Nothing here sees the screen: a step gets a reader of its own pane's pixels, and
--- answers the next record, the next store and the changes to the pane's pixels.
+-- One command (01, "One command"): judged, then planned. Nothing here sees the screen: a step gets a reader
+-- of its own pane's pixels, and answers the next record, the next store and the changes to the pane's pixels.
 use Prim.Native.Nat.{ℕ}
 use mathlib.Core.List.{List, []}
 use mathlib.Core.Bool.{cond, _&&_, _||_}
@@ -28,8 +28,8 @@ stopped q store = record { counted = 0; hits = 0; pane = q; store = store; drawn
 
 -- ## A drawing
 
--- the record after a drawing with so many visible pixels: pointer, position, flags. "In pick mode .. the pick flag becomes 1 if some pixel
--- would have been drawn"; "T sets the trap flag; no command resets it"
+-- the record after a drawing with so many visible pixels: pointer, position, flags. "In pick mode .. the pick
+-- flag becomes 1 if some pixel would have been drawn"; "T sets the trap flag; no command resets it"
 abbrev pub drewPane : Pane → ℕ → Drawing → ℕ → Pane
 drewPane p next d n =
     withPointer (withPosition (withFlags p (record {
@@ -69,14 +69,15 @@ planOf g r p store next (draws d) =
 
 -- "All is checked before the first pixel": done where there is no fault
 unfoldable pub judged : Geometry → Row → Pane → (ℕ → ℕ → ℕ) → List ℕ → ℕ → Command → ℕ → Plan
-judged g r p look store next c fault =
-    cond (eqb fault 0) (planOf g r p store next (effectOf g r p look store next c)) (stopped (faulted p fault) store)
+judged g r p pixelOf store next c fault =
+    cond (eqb fault 0) (planOf g r p store next (effectOf g r p pixelOf store next c))
+    (stopped (faulted p fault) store)
 
 unfoldable pub obey : Geometry → Row → Pane → (ℕ → ℕ → ℕ) → List ℕ → Decoded → Plan
-obey g r p look store End = stopped (ended p) store
-obey g r p look store (Fault f) = stopped (faulted p f) store
-obey g r p look store (Do c next) = judged g r p look store next c (faultOf g r p store c)
+obey g r p pixelOf store End = stopped (ended p) store
+obey g r p pixelOf store (Fault f) = stopped (faulted p f) store
+obey g r p pixelOf store (Do c next) = judged g r p pixelOf store next c (faultOf g r p store c)
 
 -- one step, from the record, what the pane shows of its pixels, and its store
 unfoldable pub step : Geometry → Row → Pane → (ℕ → ℕ → ℕ) → List ℕ → Plan
-step g r p look store = obey g r p look store (decode (r .len) store (p .progress .pointer))
+step g r p pixelOf store = obey g r p pixelOf store (decode (r .len) store (p .progress .pointer))

@@ -1,5 +1,6 @@
-// The plain data of the pane console that all crates share: structs and enums by value. What they mean is stated in specs/,
-// in the order of the paper. The one function does nothing: its contract is the theorem over the bench figures.
+// The plain data of the pane console that all crates share: structs and enums by value. What they mean is
+// stated in specs/, in the order of the paper. The one function does nothing: its contract is the theorem
+// over the bench figures.
 ghost use Rattle.model.specs.Figures.{All, table};
 
 // ---- Screen, panes, stores
@@ -11,7 +12,8 @@ pub struct Geometry {
     pub depth: u32,
 }
 
-// A row of the table, one for each pane: a rectangle of the screen, and the store, a part of the stores buffer.
+// A row of the table, one for each pane: a rectangle of the screen, and the store, a part of the stores
+// buffer.
 pub struct Row {
     pub left: u32,
     pub top: u32,
@@ -21,7 +23,22 @@ pub struct Row {
     pub len: u32,
 }
 
-// How far a list has come. Status: 0 parked, 1 running, 2 ended, 3 faulted.
+// What a pane is seen through: the screen's geometry and the pane's row.
+pub struct Frame {
+    pub geometry: Geometry,
+    pub row: Row,
+}
+
+// "Status: 0 parked, 1 running, 2 ended, 3 faulted".
+pub const STATUS_PARKED: u8 = 0;
+
+pub const STATUS_RUNNING: u8 = 1;
+
+pub const STATUS_ENDED: u8 = 2;
+
+pub const STATUS_FAULTED: u8 = 3;
+
+// How far a list has come.
 pub struct Progress {
     pub status: u8,
     pub fault: u8,
@@ -147,9 +164,17 @@ pub enum Opcode {
 }
 
 // An opcode number: what it names with the number of its parameter words, or unknown.
-pub enum Shape {
+pub enum OpcodeEntry {
     Known(Opcode, u8),
     Unknown,
+}
+
+// The source rectangle of a copy, by its words: from (x,y) to (x+dx,y+dy), both corners in.
+pub struct Block {
+    pub x: u16,
+    pub y: u16,
+    pub dx: u16,
+    pub dy: u16,
 }
 
 // A command with its words. Coordinates and offsets are 16-bit patterns, addresses have 22 bits.
@@ -219,10 +244,7 @@ pub enum Command {
         dy: u16,
     },
     BitBlt {
-        x: u16,
-        y: u16,
-        dx: u16,
-        dy: u16,
+        block: Block,
     },
     Polyline {
         array: u32,
@@ -237,10 +259,7 @@ pub enum Command {
         address: u32,
         xmax: u16,
         ymax: u16,
-        x: u16,
-        y: u16,
-        dx: u16,
-        dy: u16,
+        block: Block,
     },
     ScanLines {
         array: u32,
@@ -257,8 +276,8 @@ pub enum Decoded {
 
 // ---- Pixels
 
-// Pixels in a buffer: rows of so many words from the base byte on, and of these rows and columns the rectangle from
-// (left, top) on. The pane and a bitmap in the store are both one.
+// Pixels in a buffer: rows of so many words from the base byte on, and of these rows and columns the
+// rectangle from (left, top) on. The pane and a bitmap in the store are both one.
 pub struct Surface {
     pub base: usize,
     pub words: usize,

@@ -1,5 +1,5 @@
-// A first picture, for the panel's programmer: set-up, a list put, started and run, its reply matched. README.md shows the part between the
-// marks; tests/run-documents compares the two.
+// A first picture, for the panel's programmer: set-up, a list put, started and run, its reply matched.
+// README.md shows the part between the marks; tests/run-documents compares the two.
 use model::Console;
 use model::Geometry;
 use model::Reply;

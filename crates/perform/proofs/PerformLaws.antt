@@ -1,48 +1,60 @@
--- What a command that is free of faults leaves, where it changes the record alone; and what no fault says of CALL and RETURN.
-use mathlib.Core.Path.{_≡_, sym, ap, subst, _∙_}
+-- What a command that is free of faults leaves: where it changes the record alone, and where it draws.
+use mathlib.Core.Path.{_≡_, sym, ap, ap₂, subst, _∙_}
+use mathlib.Core.Bool.{Bool, false}
 use mathlib.Core.List.{List}
-use Prim.Native.Nat.{ℕ, _<_}
+use Prim.Native.Nat.{ℕ}
 use native.Mathlib.Omega.{arith}
-use borrow.Author.Tests.{leb-false, eqb-false}
-use lib.Dec.{leb, eqb}
 use Rattle.model.specs.declared.Geometry.{Geometry}
 use Rattle.model.specs.declared.Row.{Row}
 use Rattle.model.specs.declared.Pane.{Pane}
+use Rattle.model.specs.declared.Point.{Point}
 use Rattle.model.specs.declared.Command.{Command}
-use Rattle.model.specs.declared.Command.the-variants as command
 use Rattle.model.specs.Bitmaps.{paneSurface, pixels}
-use Rattle.model.specs.Effects.{Effect, becomes, effectOf}
-use Rattle.model.specs.Faults.{faultOf}
+use Rattle.model.specs.Dots.{Drawing}
+use Rattle.model.specs.Effects.{Effect, becomes, draws, effectOf}
+use Rattle.model.specs.Faults.{noBitmap}
 use Rattle.model.specs.Pixels.{changes}
 use Rattle.model.specs.Runs.{carried}
-use Rattle.model.specs.Steps.{planOf}
-use Rattle.model.proofs.Decisions.{cond-none}
-use Rattle.drawing.specs.Stepping.{Allowed, Left, left, leftOf, done}
+use Rattle.model.specs.Steps.{drewPane, planOf}
+use Rattle.canvas.specs.declared.Drawn.{Drawn}
+use Rattle.canvas.specs.Canvas.{Canvas}
+use Rattle.canvas.proofs.PlanLaws.{canvasOf, planned}
+use Rattle.perform.specs.Performing.{Settles, Carries, Performs, finish, performed, quietly, drewOn}
+use Rattle.perform.specs.declared.Performed.{Performed}
 
 module _ (g : Geometry) (r : Row) (p : Pane) (next : ℕ) (c : Command) (screen store : List ℕ) where
-  done-becomes : (q : Pane) → effectOf g r p (pixels (paneSurface g r) screen) store next c ≡ becomes q → done g r p next c screen store ≡ left 1 q screen store
-  unfolding done planOf changes
-  done-becomes q e = ap (λ (z : Effect). leftOf (carried g r (planOf g r p store next z) screen)) e
+  performed-as : (e : Effect) → effectOf g r p (pixels (paneSurface g r) screen) store next c ≡ e
+      → performed g r p next c screen store ≡ carried g r (planOf g r p store next e) screen
+  unfolding performed
+  performed-as e k = ap (λ (z : Effect). carried g r (planOf g r p store next z) screen) k
 
-  -- the record that a command gave is what is left of it
-  pub done-record : (d : Command) (q q′ : Pane) → d ≡ c → effectOf g r p (pixels (paneSurface g r) screen) store next c ≡ becomes q′ → q ≡ q′
-      → left 1 q screen store ≡ done g r p next d screen store
-  done-record d q q′ told e h =
-      ap (λ (z : Pane). left 1 z screen store) h ∙ sym (done-becomes q′ e) ∙ sym (ap (λ (k : Command). done g r p next k screen store) told)
+  -- a command that changes the record alone
+  pub performs-record : (q q′ : Pane) {a : Performed} → effectOf g r p (pixels (paneSurface g r) screen) store next c ≡ becomes q′
+      → Settles p next c q → a ≡ quietly q → Performs g r p next c screen store a screen store
+  unfolding planOf changes
+  performs-record q q′ k h e =
+      subst (λ (z : Performed). Performs g r p next c screen store z screen store) (sym e)
+      (record {
+        leaves =
+            ap (λ (z : Pane). finish 1 0 z screen store) (h .is g r (pixels (paneSurface g r) screen) store q′ k)
+            ∙ sym (performed-as (becomes q′) k);
+        few = omega arith;
+      })
 
--- a command by another name
-pub allowed-as : {g : Geometry} {r : Row} {p : Pane} {screen : ℕ} {store : List ℕ} {c d : Command} → c ≡ d → Allowed g r p screen store c → Allowed g r p screen store d
-allowed-as {g = g} {r = r} {p = p} {screen = screen} {store = store} e h = subst (Allowed g r p screen store) e h
-
-pub done-as : (g : Geometry) (r : Row) (p : Pane) (next : ℕ) (screen store : List ℕ) {c d : Command} {l : Left} → c ≡ d → l ≡ done g r p next d screen store
-    → l ≡ done g r p next c screen store
-done-as g r p next screen store e h = h ∙ sym (ap (λ (k : Command). done g r p next k screen store) e)
-
-module _ (g : Geometry) (r : Row) (p : Pane) (store : List ℕ) where
-  pub call-room : (a : ℕ) → faultOf g r p store (command.Call a) ≡ 0 → p .returns .count < 8
-  unfolding faultOf
-  call-room a e = leb-false 8 (p .returns .count) (cond-none (leb 8 (p .returns .count)) 25 0 e .0)
-
-  pub return-kept : faultOf g r p store command.Return ≡ 0 → 0 < p .returns .count
-  unfolding faultOf
-  return-kept e = let n = eqb-false (p .returns .count) 0 (cond-none (eqb (p .returns .count) 0) 26 0 e .0) in omega arith
+  -- a drawing: its dots painted, with its position and trap flag in the record
+  pub performs-drawing : (w : Drawing) (d : Drawn) (screen′ store′ : List ℕ) {a : Performed} → noBitmap (p .bitmap) ≡ false
+      → effectOf g r p (pixels (paneSurface g r) screen) store next c ≡ draws w → Carries g r p c screen store d screen′ store′ → a ≡ drewOn p next d
+      → Performs g r p next c screen store a screen′ store′
+  unfolding canvasOf
+  performs-drawing w d screen′ store′ active k h e =
+      let drawn = h .drew next w k in
+      subst (λ (z : Performed). Performs g r p next c screen store z screen′ store′) (sym e)
+      (record {
+        leaves =
+            ap₂ (λ (z : Point) (b : Bool).
+            finish 1 (d .hits) (drewPane p next (record { dots = w .dots; position = z; trap = b }) (d .hits)) screen′ store′)
+            (drawn .position) (drawn .trap)
+            ∙ ap (λ (z : Canvas). finish 1 (z .hits) (drewPane p next w (z .hits)) (z .screen) (z .store)) (drawn .dots)
+            ∙ sym (planned g r p w screen store active next) ∙ sym (performed-as (draws w) k);
+        few = h .few;
+      })

@@ -1,101 +1,84 @@
-// Every command, done: the one match on what a command is. Those that change the record alone are the crates control's and commands', the others
-// the crate drawing's.
+// Every command, done: a command that draws nothing leaves another record, and what follows a drawing stands
+// here once.
+pub mod settling; // settling.rt: the commands that draw nothing
+pub mod drawing; // drawing.rt: the drawing commands, on the pane's target
+
 ghost use mathlib.Core.Path.{_≡_};
 ghost use lib.ListN.{length};
-ghost use Rattle.drawing.specs.Stepping.{Allowed, left, done};
-use drawing::blocks;
-use drawing::strokes;
-use drawing::text;
+ghost use Rattle.perform.specs.Performing.{Allowed, Performs, quietly, drewOn};
+use canvas::Drawn;
+use drawing::draw;
 use model::Command;
-use model::Geometry;
+use model::Frame;
 use model::Pane;
-use model::Row;
-use state_commands::control;
-use state_commands::position;
-use state_commands::settings;
+use settling::settle;
+
+// What a command leaves beside both buffers: the record, and how many of its pixels were visible.
+pub struct Performed {
+    pub pane: Pane,
+    pub hits: usize,
+}
+
+// A command that draws nothing leaves this record.
+fn quiet(pane: Pane) -> Performed
+    ensures { λ d. ⌜ d ≡ quietly pane ⌝ }
+{
+    Performed { pane, hits: 0 }
+}
+
+// A drawing command leaves the pointer behind it, the position, and the flags: in pick mode the pick flag is
+// set if a pixel was visible.
+fn drew(p: Pane, next: u32, d: Drawn) -> Performed
+    ensures { λ r. ⌜ r ≡ drewOn p next d ⌝ }
+{
+    let pick = p.flags.pick | (p.flags.picking & (0 < d.hits));
+    let trap = p.flags.trap | d.trap;
+    let position = d.position;
+    let mut q = p;
+    q.flags.pick = pick;
+    q.flags.trap = trap;
+    q.position = position;
+    q.progress.pointer = next;
+    Performed {
+        pane: q,
+        hits: d.hits,
+    }
+}
 
 // A command that is free of faults, done: the record answered has the address after it.
 pub fn perform(
     screen: &mut [u8],
     store: &mut [u8],
-    g: Geometry,
-    r: Row,
+    f: Frame,
     p: Pane,
     c: Command,
     next: u32,
-) -> Pane
-    requires { ⌜ Allowed g r p (length (now screen)) (now store) c ⌝ }
-    ensures { λ q. ⌜ left 1 q (now (screen .exit)) (now (store .exit)) ≡ done g r p next c (now (screen .entry)) (now (store .entry)) ⌝ }
+) -> Performed
+    requires { ⌜ Allowed (f .geometry) (f .row) p (length (now screen)) (now store) c ⌝ }
+    ensures { λ d. ⌜ Performs (f .geometry) (f .row) p next c (now (screen .entry)) (now (store .entry))
+        d (now (screen .exit)) (now (store .exit)) ⌝ }
 {
     match c {
-        Command::Nop => control::nop(p, next),
-        Command::Link { address } => control::link(p, address),
-        Command::Call { address } => control::call(p, address, next),
-        Command::Return => control::return_from_call(p),
-        Command::AbsMov { x, y } => position::abs_mov(p, x, y, next),
-        Command::RelMov { dx, dy } => position::rel_mov(p, dx, dy, next),
-        Command::DefBitmap {
-            address,
-            xmax,
-            ymax,
-            bits,
-        } => settings::def_bitmap(p, address, xmax, ymax, bits, next),
-        Command::DefClipRect {
-            xmin,
-            ymin,
-            xmax,
-            ymax,
-        } => settings::def_clip_rect(p, xmin, ymin, xmax, ymax, next),
-        Command::DefColors { fore, back } => settings::def_colors(p, fore, back, next),
-        Command::DefLogicalOp { mask, code } => settings::def_logical_op(p, mask, code, next),
-        Command::DefTexture {
-            pattern,
-            transparent,
-        } => settings::def_texture(p, pattern, transparent, next),
-        Command::DefSpace { spacing } => settings::def_space(p, spacing, next),
-        Command::DefCharOrient { orientation } => settings::def_char_orient(p, orientation, next),
-        Command::DefCharSet { base, bytes } => settings::def_char_set(p, base, bytes, next),
-        Command::EnterPick => settings::enter_pick(p, next),
-        Command::ExitPick => settings::exit_pick(p, next),
-        Command::Point { dx, dy } => strokes::point(screen, store, g, r, p, dx, dy, next),
-        Command::Line { dx, dy } => strokes::line(screen, store, g, r, p, dx, dy, next),
-        Command::Rect { dx, dy } => strokes::rect(screen, store, g, r, p, dx, dy, next),
-        Command::Polyline { array, count } => {
-            strokes::polyline(screen, store, g, r, p, array, count, next)
+        Command::Point { dx: _, dy: _ }
+        | Command::Line { dx: _, dy: _ }
+        | Command::Rect { dx: _, dy: _ }
+        | Command::BitBlt { block: _ }
+        | Command::Polyline { array: _, count: _ }
+        | Command::Char {
+            string: _,
+            count: _,
+            transparent: _,
         }
-        Command::ScanLines { array, count } => {
-            strokes::scan_lines(screen, store, g, r, p, array, count, next)
+        | Command::BitBltM {
+            address: _,
+            xmax: _,
+            ymax: _,
+            block: _,
         }
-        Command::BitBlt { x, y, dx, dy } => {
-            blocks::bit_blt(screen, store, g, r, p, x, y, dx, dy, next)
+        | Command::ScanLines { array: _, count: _ } => {
+            let d = draw(screen, store, f, p, c);
+            drew(p, next, d)
         }
-        Command::BitBltM {
-            address,
-            xmax,
-            ymax,
-            x,
-            y,
-            dx,
-            dy,
-        } => blocks::bit_blt_m(
-            screen,
-            store,
-            g,
-            r,
-            p,
-            address,
-            xmax,
-            ymax,
-            x,
-            y,
-            dx,
-            dy,
-            next,
-        ),
-        Command::Char {
-            string,
-            count,
-            transparent,
-        } => text::char(screen, store, g, r, p, string, count, transparent, next),
+        _ => quiet(settle(p, c, next)),
     }
 }

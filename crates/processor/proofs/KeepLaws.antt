@@ -14,24 +14,25 @@ use Rattle.model.specs.declared.Pane.{Pane}
 use Rattle.model.specs.declared.Bitmap.{Bitmap}
 use Rattle.model.specs.declared.Command.{Command}
 use Rattle.model.specs.declared.Command.the-variants as command
-use Rattle.model.specs.declared.Shape.{Shape}
-use Rattle.model.specs.declared.Shape.the-variants.{Known, Unknown}
+use Rattle.model.specs.declared.OpcodeEntry.{OpcodeEntry}
+use Rattle.model.specs.declared.OpcodeEntry.the-variants.{Known, Unknown}
 use Rattle.model.specs.declared.Decoded.{Decoded}
 use Rattle.model.specs.declared.Decoded.the-variants.{Do, End, Fault}
-use Rattle.model.specs.Numbers.{statusRunning}
+use Rattle.model.specs.Numbers.{statusRunning, faultBitmap, faultCall, faultClip, faultData, faultNoBitmap}
 use Rattle.model.specs.Words.{wordAt, addressEnd}
 use Rattle.model.specs.Bitmaps.{ruleBroken, bitmapOf, surfaceOf}
 use Rattle.model.specs.Record.{faulted}
-use Rattle.model.specs.Commands.{Addressed, fontAt, shapeOf, fetch, decode}
-use Rattle.model.specs.Copies.{Block, blockBad, sharing}
-use Rattle.model.specs.Faults.{noBitmap, noFont, clipOutside, arrayBad, stringBad, descriptorsBad, block, sourceBitmap, copyFault, drawFault, faultOf}
+use Rattle.model.specs.Commands.{Addressed, fontAt, opcodeOf, fetch, decode}
+use Rattle.model.specs.Copies.{Rectangle, rectangleOf, blockBad, sharing}
+use Rattle.model.specs.Faults.{noBitmap, noFont, clipOutside, arrayBad, stringBad, descriptorsBad, sourceBitmap, copyFault, drawFault, faultOf}
 use Rattle.model.specs.Effects.{Effect, becomes, draws, fontOf, effectOf}
 use Rattle.model.specs.Setup.{fontBad}
 use Rattle.model.specs.Steps.{Plan, planOf, judged, obey, step}
 use Rattle.model.proofs.Decisions.{split, cond-ind, cond-none, cond-true, cond-false}
 use Rattle.refusals.specs.Good.{Good}
 use Rattle.bitmaps.proofs.BitmapLaws.{whole-clip}
-use Rattle.refusals.proofs.GoodLaws.{good-pointer, good-ended, good-faulted, good-position, good-bitmap, good-clip, good-colours, good-operation, good-pattern, good-spacing, good-orientation, good-font, good-flags, good-returns, good-baseBad}
+use Rattle.refusals.proofs.GoodLaws.{good-pointer, good-ended, good-faulted, good-position, good-bitmap, good-clip, good-colours, good-operation}
+use Rattle.refusals.proofs.GoodLaws.{good-pattern, good-spacing, good-orientation, good-font, good-flags, good-returns, good-baseBad}
 use Rattle.decoder.proofs.DecodeLaws.{decode-addressed}
 
 -- ## Faults are 20 to 29
@@ -51,7 +52,7 @@ first : (t : Bool) (f rest : ℕ) → 20 ≤ f → f ≤ 29 → InRange rest →
 first true f rest l h r = inr (l, h)
 first false f rest l h r = r
 
-copy-range : (g : Geometry) (r : Row) (active source : Bitmap) (c : Block) → InRange (copyFault g r active source c)
+copy-range : (g : Geometry) (r : Row) (active source : Bitmap) (c : Rectangle) → InRange (copyFault g r active source c)
 copy-range g r active source c = first (ruleBroken g r source) 22 _ (omega arith) (omega arith)
     (first (blockBad (surfaceOf g r source) c || sharing active source (surfaceOf g r source) c) 29 0 (omega arith) (omega arith) none)
 
@@ -80,11 +81,12 @@ module _ (g : Geometry) (r : Row) (p : Pane) (store : List ℕ) where
   fault-range (command.Point dx dy) = drawn 0 none
   fault-range (command.Line dx dy) = drawn 0 none
   fault-range (command.Rect dx dy) = drawn 0 none
-  fault-range (command.BitBlt x y dx dy) = drawn _ (first (blockBad (surfaceOf g r (p .bitmap)) (block x y dx dy)) 29 0 (omega arith) (omega arith) none)
+  fault-range (command.BitBlt b) = drawn _ (first (blockBad (surfaceOf g r (p .bitmap)) (rectangleOf b)) 29 0 (omega arith) (omega arith) none)
   fault-range (command.Polyline a n) = drawn _ (first (arrayBad r (p .bitmap) a (4 * n)) 25 0 (omega arith) (omega arith) none)
   fault-range (command.Char a n t) = drawn _ (first (noFont (p .text .font)) 28 _ (omega arith) (omega arith)
-      (first (stringBad r (p .bitmap) store (p .text .font) a n || descriptorsBad r (p .bitmap) store (p .text .font) a n) 25 0 (omega arith) (omega arith) none))
-  fault-range (command.BitBltM a xmax ymax x y dx dy) = drawn _ (copy-range g r (p .bitmap) (sourceBitmap g r p a xmax ymax) (block x y dx dy))
+      (first (stringBad r (p .bitmap) store (p .text .font) a n || descriptorsBad r (p .bitmap) store (p .text .font) a n) 25 0 (omega arith) (omega arith)
+      none))
+  fault-range (command.BitBltM a xmax ymax b) = drawn _ (copy-range g r (p .bitmap) (sourceBitmap g r p a xmax ymax) (rectangleOf b))
   fault-range (command.ScanLines a n) = drawn _ (first (arrayBad r (p .bitmap) a (6 * n)) 25 0 (omega arith) (omega arith) none)
 
 -- ## A command that is done keeps the record good
@@ -98,28 +100,29 @@ good-fontOf : (t : Bool) (a : ℕ) → a % 2 ≡ 0 → a < addressEnd → fontBa
 good-fontOf true a e h = good-baseBad a (record { even = e; most = h })
 good-fontOf false a e h = good-baseBad a (record { even = e; most = h })
 
-module _ (g : Geometry) (r : Row) (p : Pane) (good : Good g r p) (look : ℕ → ℕ → ℕ) (store : List ℕ) (next : ℕ) where
-  effect-good : (c : Command) → Addressed c → faultOf g r p store c ≡ 0 → GoodEffect g r (effectOf g r p look store next c)
+module _ (g : Geometry) (r : Row) (p : Pane) (good : Good g r p) (pixelOf : ℕ → ℕ → ℕ) (store : List ℕ) (next : ℕ) where
+  effect-good : (c : Command) → Addressed c → faultOf g r p store c ≡ 0 → GoodEffect g r (effectOf g r p pixelOf store next c)
   unfolding faultOf effectOf GoodEffect
   effect-good (command.Link a) h e = good-pointer good a
   effect-good command.Nop h e = good-pointer good next
   effect-good (command.DefTexture pattern t) h e = good-pointer (good-pattern good pattern t) next
   effect-good (command.DefCharSet base t) h e =
-      let o = eqb-false (base % 2) 1 (cond-none (eqb (base % 2) 1) 24 0 e .0) in
+      let o = eqb-false (base % 2) 1 (cond-none (eqb (base % 2) 1) faultData 0 tt e .0) in
       good-pointer (good-font good (fontOf t base) (good-fontOf t base (omega arith) (h base fontAt))) next
   effect-good (command.Call a) h e =
-      let l = leb-false 8 (p .returns .count) (cond-none (leb 8 (p .returns .count)) 25 0 e .0) in
+      let l = leb-false 8 (p .returns .count) (cond-none (leb 8 (p .returns .count)) faultCall 0 tt e .0) in
       good-pointer (good-returns good _ (omega arith)) a
   effect-good command.Return h e = good-pointer (good-returns good _ (omega (arith, good .returns))) _
   effect-good (command.DefBitmap a xmax ymax b) h e =
-      good-pointer (good-bitmap good (bitmapOf a xmax ymax b) _ (cond-none (ruleBroken g r (bitmapOf a xmax ymax b)) 21 0 e .0) (whole-clip a xmax ymax b)) next
+      good-pointer (good-bitmap good (bitmapOf a xmax ymax b) _ (cond-none (ruleBroken g r (bitmapOf a xmax ymax b)) faultBitmap 0 tt e .0)
+      (whole-clip a xmax ymax b)) next
   effect-good (command.DefColors fore back) h e = good-pointer (good-colours good fore back) next
   effect-good (command.DefLogicalOp mask code) h e = good-pointer (good-operation good (code % 16) mask (omega arith)) next
   effect-good command.EnterPick h e = good-pointer (good-flags good _) next
   effect-good command.ExitPick h e = good-pointer (good-flags good _) next
   effect-good (command.DefClipRect xmin ymin xmax ymax) h e =
-      let a = cond-none (noBitmap (p .bitmap)) 22 _ e in
-      let b = cond-none (clipOutside (p .bitmap) (record { xmin = xmin; ymin = ymin; xmax = xmax; ymax = ymax })) 23 0 (a .1) in
+      let a = cond-none (noBitmap (p .bitmap)) faultNoBitmap _ tt e in
+      let b = cond-none (clipOutside (p .bitmap) (record { xmin = xmin; ymin = ymin; xmax = xmax; ymax = ymax })) faultClip 0 tt (a .1) in
       good-pointer (good-clip good _ (b .0)) next
   effect-good (command.DefSpace spacing) h e = good-pointer (good-spacing good spacing) next
   effect-good (command.DefCharOrient orientation) h e =
@@ -129,10 +132,10 @@ module _ (g : Geometry) (r : Row) (p : Pane) (good : Good g r p) (look : ℕ →
   effect-good (command.Point dx dy) h e = tt
   effect-good (command.Line dx dy) h e = tt
   effect-good (command.Rect dx dy) h e = tt
-  effect-good (command.BitBlt x y dx dy) h e = tt
+  effect-good (command.BitBlt b) h e = tt
   effect-good (command.Polyline a n) h e = tt
   effect-good (command.Char a n t) h e = tt
-  effect-good (command.BitBltM a xmax ymax x y dx dy) h e = tt
+  effect-good (command.BitBltM a xmax ymax b) h e = tt
   effect-good (command.ScanLines a n) h e = tt
 
   plan-good : (e : Effect) → GoodEffect g r e → Good g r (planOf g r p store next e .pane)
@@ -145,16 +148,16 @@ module _ (g : Geometry) (r : Row) (p : Pane) (good : Good g r p) (look : ℕ →
   fault-good f (inl e) n = absurd (n e)
   fault-good f (inr h) n = good-faulted good f (h .0) (h .1)
 
-  judged-good : (c : Command) → Addressed c → Good g r (judged g r p look store next c (faultOf g r p store c) .pane)
+  judged-good : (c : Command) → Addressed c → Good g r (judged g r p pixelOf store next c (faultOf g r p store c) .pane)
   unfolding judged
   judged-good c h = cond-ind (λ (q : Plan). Good g r (q .pane)) (eqb (faultOf g r p store c) 0) _ _
-      (λ e. plan-good (effectOf g r p look store next c) (effect-good c h (eqb-true (faultOf g r p store c) 0 e)))
+      (λ e. plan-good (effectOf g r p pixelOf store next c) (effect-good c h (eqb-true (faultOf g r p store c) 0 e)))
       (λ e. fault-good (faultOf g r p store c) (fault-range g r p store c) (eqb-false (faultOf g r p store c) 0 e))
 
 -- ## A step
 
 -- what the decoder answers beside a command is a fault 20 or 21
-fetch-fault : (len : ℕ) (s : List ℕ) (at : ℕ) (shape : Shape) (f : ℕ) → fetch len s at shape ≡ Fault f → (20 ≤ f) × (f ≤ 29)
+fetch-fault : (len : ℕ) (s : List ℕ) (at : ℕ) (shape : OpcodeEntry) (f : ℕ) → fetch len s at shape ≡ Fault f → (20 ≤ f) × (f ≤ 29)
 unfolding fetch
 fetch-fault len s at Unknown f e = let q : 20 ≡ f = cc in (omega arith, omega arith)
 fetch-fault len s at (Known op n) f e = split (ltb len (at + 2 + 2 * n))
@@ -173,7 +176,7 @@ decode-fault len s at f e = split (eqb (at % 2) 1 || ltb len (at + 2))
     (λ t. let q : 21 ≡ f = fault-is (sym (cond-true _ _ t) ∙ e) in (omega arith, omega arith))
     (λ t. split (eqb (wordAt s at % 2) 1)
     (λ u. absurd (end-fault (sym (cond-true _ _ u) ∙ (sym (cond-false _ _ t) ∙ e))))
-    (λ u. fetch-fault len s at (shapeOf (wordAt s at / 256)) f (sym (cond-false _ _ u) ∙ (sym (cond-false _ _ t) ∙ e))))
+    (λ u. fetch-fault len s at (opcodeOf (wordAt s at / 256)) f (sym (cond-false _ _ u) ∙ (sym (cond-false _ _ t) ∙ e))))
   where
     fault-is : {m n : ℕ} → Fault m ≡ Fault n → m ≡ n
     fault-is q = cc
@@ -181,15 +184,15 @@ decode-fault len s at f e = split (eqb (at % 2) 1 || ltb len (at + 2))
     end-fault : {n : ℕ} → End ≡ Fault n → ⊥
     end-fault q = let z : _≡_ {A = ℕ} 0 1 = cc in omega arith
 
-module _ (g : Geometry) (r : Row) (p : Pane) (good : Good g r p) (look : ℕ → ℕ → ℕ) (store : List ℕ) where
+module _ (g : Geometry) (r : Row) (p : Pane) (good : Good g r p) (pixelOf : ℕ → ℕ → ℕ) (store : List ℕ) where
   obey-good : p .progress .status ≡ statusRunning → ((k : ℕ) → getD store k 0 < 256) → (d : Decoded)
-      → decode (r .len) store (p .progress .pointer) ≡ d → Good g r (obey g r p look store d .pane)
+      → decode (r .len) store (p .progress .pointer) ≡ d → Good g r (obey g r p pixelOf store d .pane)
   unfolding obey
   obey-good s bytes End e = good-ended good s
   obey-good s bytes (Fault f) e = let h = decode-fault (r .len) store (p .progress .pointer) f e in good-faulted good f (h .0) (h .1)
-  obey-good s bytes (Do c next) e = judged-good g r p good look store next c (decode-addressed (r .len) store (p .progress .pointer) c next bytes e)
+  obey-good s bytes (Do c next) e = judged-good g r p good pixelOf store next c (decode-addressed (r .len) store (p .progress .pointer) c next bytes e)
 
   -- what refusal 12 checks is kept by a step of a running pane
-  pub step-good : p .progress .status ≡ statusRunning → ((k : ℕ) → getD store k 0 < 256) → Good g r (step g r p look store .pane)
+  pub step-good : p .progress .status ≡ statusRunning → ((k : ℕ) → getD store k 0 < 256) → Good g r (step g r p pixelOf store .pane)
   unfolding step
   step-good s bytes = obey-good s bytes (decode (r .len) store (p .progress .pointer)) refl

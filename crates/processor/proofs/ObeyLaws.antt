@@ -17,39 +17,42 @@ use Rattle.model.specs.Record.{faulted}
 use Rattle.model.specs.Runs.{carried, stepped}
 use Rattle.model.specs.Steps.{Plan, judged, obey, step}
 use Rattle.model.proofs.Decisions.{cond-true, cond-false}
-use Rattle.drawing.specs.Stepping.{left, leftOf, done}
+use Rattle.perform.specs.Performing.{finish, performed}
 use Rattle.processor.specs.Obeying.{obeyed, stoppedOf}
 
 module _ (g : Geometry) (r : Row) (p : Pane) (next : ℕ) (c : Command) (screen store : List ℕ) where
-  pub obeyed-fault : (f : ℕ) (q : Pane) → f ≡ faultOf g r p store c → (f ≡ 0 → ⊥) → q ≡ faulted p f → left 0 q screen store ≡ obeyed g r p next c screen store
+  pub obeyed-fault : (f : ℕ) (q : Pane) → f ≡ faultOf g r p store c → (f ≡ 0 → ⊥) → q ≡ faulted p f
+      → finish 0 0 q screen store ≡ obeyed g r p next c screen store
   unfolding obeyed judged changes
   obeyed-fault f q e n h =
-      ap (λ (z : Pane). left 0 z screen store) (h ∙ ap (faulted p) e)
-      ∙ sym (ap (λ (z : Plan). leftOf (carried g r z screen)) (cond-false _ _ (ne-eqb (faultOf g r p store c) 0 (λ z. n (e ∙ z)))))
+      ap (λ (z : Pane). finish 0 0 z screen store) (h ∙ ap (faulted p) e)
+      ∙ sym (ap (λ (z : Plan). carried g r z screen) (cond-false _ _ (ne-eqb (faultOf g r p store c) 0 (λ z. n (e ∙ z)))))
 
-  pub obeyed-done : faultOf g r p store c ≡ 0 → done g r p next c screen store ≡ obeyed g r p next c screen store
-  unfolding obeyed judged done
-  obeyed-done e = sym (ap (λ (z : Plan). leftOf (carried g r z screen)) (cond-true _ _ (eq-eqb (faultOf g r p store c) 0 e)))
+  pub obeyed-done : faultOf g r p store c ≡ 0 → performed g r p next c screen store ≡ obeyed g r p next c screen store
+  unfolding obeyed judged performed
+  obeyed-done e = sym (ap (λ (z : Plan). carried g r z screen) (cond-true _ _ (eq-eqb (faultOf g r p store c) 0 e)))
 
-module _ (g : Geometry) (r : Row) (p : Pane) (screen store : List ℕ) (d : Decoded) (e : decode (r .len) store (p .progress .pointer) ≡ d) where
-  stepped-as : leftOf (stepped g r p screen store) ≡ leftOf (carried g r (obey g r p (pixels (paneSurface g r) screen) store d) screen)
+-- a step, by the decoder's answer
+module _ (g : Geometry) (r : Row) (p : Pane) (screen store : List ℕ) where
+  stepped-as : (d : Decoded) → decode (r .len) store (p .progress .pointer) ≡ d
+      → stepped g r p screen store ≡ carried g r (obey g r p (pixels (paneSurface g r) screen) store d) screen
   unfolding stepped step
-  stepped-as = ap (λ (z : Decoded). leftOf (carried g r (obey g r p (pixels (paneSurface g r) screen) store z) screen)) e
+  stepped-as d e = ap (λ (z : Decoded). carried g r (obey g r p (pixels (paneSurface g r) screen) store z) screen) e
 
-pub stepped-do : (g : Geometry) (r : Row) (p : Pane) (screen store : List ℕ) (c : Command) (next : ℕ) → decode (r .len) store (p .progress .pointer) ≡ Do c next
-    → obeyed g r p next c screen store ≡ leftOf (stepped g r p screen store)
-unfolding obeyed obey
-stepped-do g r p screen store c next e = sym (stepped-as g r p screen store (Do c next) e)
+  pub stepped-do : (c : Command) (next : ℕ) → decode (r .len) store (p .progress .pointer) ≡ Do c next
+      → obeyed g r p next c screen store ≡ stepped g r p screen store
+  unfolding obeyed obey
+  stepped-do c next e = sym (stepped-as (Do c next) e)
 
--- the end, or a fault
-stopped-is : (g : Geometry) (r : Row) (p : Pane) (screen store : List ℕ) (d : Decoded) → ((c : Command) (next : ℕ) → d ≡ Do c next → ⊥)
-    → left 0 (stoppedOf p d) screen store ≡ leftOf (carried g r (obey g r p (pixels (paneSurface g r) screen) store d) screen)
-unfolding obey changes
-stopped-is g r p screen store End n = refl
-stopped-is g r p screen store (Fault f) n = refl
-stopped-is g r p screen store (Do c next) n = absurd (n c next refl)
+  -- the end, or a fault
+  stopped-is : (d : Decoded) → ((c : Command) (next : ℕ) → d ≡ Do c next → ⊥)
+      → finish 0 0 (stoppedOf p d) screen store ≡ carried g r (obey g r p (pixels (paneSurface g r) screen) store d) screen
+  unfolding obey changes
+  stopped-is End n = refl
+  stopped-is (Fault f) n = refl
+  stopped-is (Do c next) n = absurd (n c next refl)
 
-pub stepped-stopped : (g : Geometry) (r : Row) (p : Pane) (screen store : List ℕ) (d : Decoded) (q : Pane) → d ≡ decode (r .len) store (p .progress .pointer)
-    → ((c : Command) (next : ℕ) → d ≡ Do c next → ⊥) → q ≡ stoppedOf p d → left 0 q screen store ≡ leftOf (stepped g r p screen store)
-stepped-stopped g r p screen store d q e n h =
-    ap (λ (z : Pane). left 0 z screen store) h ∙ stopped-is g r p screen store d n ∙ sym (stepped-as g r p screen store d (sym e))
+  pub stepped-stopped : (d : Decoded) (q : Pane) → d ≡ decode (r .len) store (p .progress .pointer)
+      → ((c : Command) (next : ℕ) → d ≡ Do c next → ⊥) → q ≡ stoppedOf p d → finish 0 0 q screen store ≡ stepped g r p screen store
+  stepped-stopped d q e n h =
+      ap (λ (z : Pane). finish 0 0 z screen store) h ∙ stopped-is d n ∙ sym (stepped-as d (sym e))

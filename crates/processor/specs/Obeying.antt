@@ -1,6 +1,7 @@
 -- A decoded command judged and done, and what is made of the end and of a fault.
+use mathlib.Core.Path.{_≡_}
 use mathlib.Core.List.{List}
-use Prim.Native.Nat.{ℕ}
+use Prim.Native.Nat.{ℕ, _≤_}
 use Rattle.model.specs.declared.Geometry.{Geometry}
 use Rattle.model.specs.declared.Row.{Row}
 use Rattle.model.specs.declared.Pane.{Pane}
@@ -10,13 +11,29 @@ use Rattle.model.specs.declared.Decoded.the-variants.{Do, End, Fault}
 use Rattle.model.specs.Bitmaps.{paneSurface, pixels}
 use Rattle.model.specs.Faults.{faultOf}
 use Rattle.model.specs.Record.{ended, faulted}
-use Rattle.model.specs.Runs.{carried}
+use Rattle.model.specs.Runs.{Finish, carried}
 use Rattle.model.specs.Steps.{judged}
-use Rattle.drawing.specs.Stepping.{Left, leftOf}
+use Rattle.perform.specs.Performing.{finish, mostDots}
+use Rattle.processor.specs.declared.Finished.{Finished}
+
+abbrev pub finishedWith : Pane → ℕ → ℕ → Finished
+finishedWith pane count hits = record { pane = pane; count = count; hits = hits }
+
+-- what was answered, with the screen and the store
+abbrev pub finishOf : Finished → List ℕ → List ℕ → Finish
+finishOf s screen store = finish (s .count) (s .hits) (s .pane) screen store
 
 -- a command judged and then done, carried out
-unfoldable pub obeyed : Geometry → Row → Pane → ℕ → Command → List ℕ → List ℕ → Left
-obeyed g r p next c screen store = leftOf (carried g r (judged g r p (pixels (paneSurface g r) screen) store next c (faultOf g r p store c)) screen)
+unfoldable pub obeyed : Geometry → Row → Pane → ℕ → Command → List ℕ → List ℕ → Finish
+obeyed g r p next c screen store =
+    carried g r (judged g r p (pixels (paneSurface g r) screen) store next c (faultOf g r p store c)) screen
+
+-- .. by the code: it leaves what model says, counts one at the most, and draws at most so much
+pub record Obeys (g : Geometry) (r : Row) (p : Pane) (next : ℕ) (c : Command) (screen store : List ℕ)
+    (s : Finished) (screen′ store′ : List ℕ) : Type 0 where
+  pub leaves : finishOf s screen′ store′ ≡ obeyed g r p next c screen store
+  pub one : s .count ≤ 1
+  pub few : s .hits ≤ mostDots
 
 -- the record after an end word or a fault of the decoder
 abbrev pub stoppedOf : Pane → Decoded → Pane

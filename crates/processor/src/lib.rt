@@ -1,48 +1,45 @@
-// The graphics processor: what stands at the pointer is decoded, judged and done; a run does so while the status is 1 and
-// budget is left.
+// The graphics processor: what stands at the pointer is decoded, judged and done; a run does so while the
+// status is 1 and budget is left.
 ghost use mathlib.Core.Path.{_≡_};
 ghost use lib.ListN.{length};
 ghost use Rattle.model.specs.Commands.{Addressed};
 ghost use Rattle.model.specs.Runs.{runs};
-ghost use Rattle.processor.specs.Obeying.{obeyed, stoppedOf};
-ghost use Rattle.drawing.specs.Stepping.{Sound, left, leftOf};
+ghost use Rattle.perform.specs.Performing.{Sound};
+ghost use Rattle.processor.specs.Obeying.{Obeys, finishedWith, finishOf, stoppedOf};
 use model::Command;
 use model::Decoded;
-use model::Geometry;
+use model::Frame;
 use model::Pane;
-use model::Row;
+use model::STATUS_RUNNING;
 use perform::perform;
 use state_commands::control;
 
-// Status 1: running.
-const RUNNING: u8 = 1;
-
-// The record after a command or a run, and the commands done.
-pub struct Stepped {
+// The record after a command or a run, the commands done, and how many of their pixels were visible.
+pub struct Finished {
     pub pane: Pane,
     pub count: u32,
+    pub hits: usize,
+}
+
+// What a command or a run answers.
+fn finish_with(pane: Pane, count: u32, hits: usize) -> Finished
+    ensures { λ s. ⌜ s ≡ finishedWith pane count hits ⌝ }
+{
+    Finished { pane, count, hits }
 }
 
 // A command judged: faulty, it is only recorded, and else it is done and counts one.
-fn obey(
-    screen: &mut [u8],
-    store: &mut [u8],
-    g: Geometry,
-    r: Row,
-    p: Pane,
-    c: Command,
-    next: u32,
-) -> Stepped
-    requires { ⌜ Sound g r p (length (now screen)) (length (now store)) × Addressed c ⌝ }
-    ensures { λ s. ⌜ left (s .count) (s .pane) (now (screen .exit)) (now (store .exit)) ≡ obeyed g r p next c (now (screen .entry)) (now (store .entry)) ⌝ }
+fn obey(screen: &mut [u8], store: &mut [u8], f: Frame, p: Pane, c: Command, next: u32) -> Finished
+    requires { ⌜ Sound (f .geometry) (f .row) p (length (now screen)) (length (now store)) × Addressed c ⌝ }
+    ensures { λ s. ⌜ Obeys (f .geometry) (f .row) p next c (now (screen .entry)) (now (store .entry))
+        s (now (screen .exit)) (now (store .exit)) ⌝ }
 {
-    let fault = faults::fault_of(store, g, r, p, c);
+    let fault = faults::fault_of(store, f, p, c);
     if fault != 0 {
-        let pane = control::faulted(p, fault);
-        return Stepped { pane, count: 0 };
+        return finish_with(control::faulted(p, fault), 0, 0);
     }
-    let q = perform(screen, store, g, r, p, c, next);
-    Stepped { pane: q, count: 1 }
+    let d = perform(screen, store, f, p, c, next);
+    finish_with(d.pane, 1, d.hits)
 }
 
 // The record after an end word, or after a fault of the decoder.
@@ -56,35 +53,31 @@ fn stopped(p: Pane, d: Decoded) -> Pane
     }
 }
 
-// Commands decoded, judged and done while the status is 1 and budget is left. An end word, or a fault of the decoder, ends
-// the run.
-pub fn run(
-    screen: &mut [u8],
-    store: &mut [u8],
-    g: Geometry,
-    r: Row,
-    p: Pane,
-    budget: u32,
-) -> Stepped
-    requires { ⌜ Sound g r p (length (now screen)) (length (now store)) ⌝ }
-    ensures { λ s. ⌜ left (s .count) (s .pane) (now (screen .exit)) (now (store .exit)) ≡ leftOf (runs g r budget p (now (screen .entry)) (now (store .entry))) ⌝ }
+// Commands decoded, judged and done while the status is 1 and budget is left. An end word, or a fault of the
+// decoder, ends the run.
+pub fn run(screen: &mut [u8], store: &mut [u8], f: Frame, p: Pane, budget: u32) -> Finished
+    requires { ⌜ Sound (f .geometry) (f .row) p (length (now screen)) (length (now store)) ⌝ }
+    ensures { λ s. ⌜ finishOf s (now (screen .exit)) (now (store .exit))
+        ≡ runs (f .geometry) (f .row) budget p (now (screen .entry)) (now (store .entry)) ⌝ }
 {
     let mut q = p;
     let mut count: u32 = 0;
+    let mut hits = 0;
     let mut rest = budget;
     while 0 < rest {
-        if q.progress.status != RUNNING {
-            return Stepped { pane: q, count };
+        if q.progress.status != STATUS_RUNNING {
+            return finish_with(q, count, hits);
         }
         let d = decoder::decode(store, q.progress.pointer);
         let Decoded::Do(c, next) = d else {
             let end = stopped(q, d);
-            return Stepped { pane: end, count };
+            return finish_with(end, count, hits);
         };
-        let s = obey(screen, store, g, r, q, c, next);
+        let s = obey(screen, store, f, q, c, next);
         q = s.pane;
         count += s.count;
+        hits += s.hits;
         rest -= 1;
     }
-    Stepped { pane: q, count }
+    finish_with(q, count, hits)
 }

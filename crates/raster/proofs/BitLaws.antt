@@ -2,15 +2,15 @@
 use mathlib.Core.Path.{_≡_, refl, sym, ap, ap₂, _∙_}
 use mathlib.Core.Bool.{Bool, true, false, cond, _&&_}
 use Prim.Native.Nat.{ℕ, zero, suc, _+_, _*_, _/_, _%_, _^_, _<_}
-use native.Mathlib.Nat.{not-suc-le-zero, le-of-suc-le-suc, zero-lt-suc, mod-one, mod-lt, div-one, zero-add, suc-add, mod-eq-of-lt, pow-suc, lt-of-le-of-lt}
-use native.Mathlib.Numerals.{add-one, one-add}
+use native.Mathlib.Nat.{not-suc-le-zero, le-of-suc-le-suc, zero-lt-suc, mod-one, mod-lt, mod-eq-of-lt, pow-suc, lt-of-le-of-lt}
+use native.Mathlib.Numerals.{add-one}
 use native.Mathlib.Omega.{arith}
 use lib.Bits.{bitAnd, bitXor, and-shr, and-mod, xor-shr, xor-mod, xor-lt, and-le-l}
 use lib.Dec.{eqb}
-use lib.Pow.{mod-pow-add, shr-shr, shl-shr}
+use lib.Pow.{mod-pow-add, shl-shr}
 use Rattle.model.specs.Words.{bit, num, digit}
-use Rattle.model.proofs.BitLaws.{bit-num, num-cong}
-use Rattle.raster.specs.Operations.{muxed, field}
+use Rattle.model.proofs.BitLaws.{bit-num, num-cong, bit-shr}
+use Rattle.raster.specs.Operations.{muxed, bitField}
 
 -- ## A number of n bits
 
@@ -48,20 +48,13 @@ bit-zero (suc i) = bit-zero i
 
 -- ## Shifts
 
-pub bit-shr : (x t i : ℕ) → bit (x / 2 ^ t) i ≡ bit x (t + i)
-unfolding bit
-bit-shr x zero i = ap₂ bit (div-one x) (sym (zero-add i))
-bit-shr x (suc t) i =
-    ap (λ (y : ℕ). bit y i) (ap (λ (k : ℕ). x / 2 ^ k) (sym (one-add t)) ∙ sym (shr-shr x 1 t)) ∙ bit-shr (x / 2) t i
-    ∙ ap (bit x) (sym (suc-add t i))
-
 -- the b bits of x from k on
-pub field-is : (x k b : ℕ) → field x k b ≡ x / 2 ^ k % 2 ^ b
-unfolding field
+pub field-is : (x k b : ℕ) → bitField x k b ≡ x / 2 ^ k % 2 ^ b
+unfolding bitField
 field-is x k b = num-cong b _ _ (λ i h. sym (bit-shr x k i)) ∙ num-bit b (x / 2 ^ k)
 
-pub field-bit : (x k b i : ℕ) → i < b → bit (field x k b) i ≡ bit x (k + i)
-unfolding field
+pub field-bit : (x k b i : ℕ) → i < b → bit (bitField x k b) i ≡ bit x (k + i)
+unfolding bitField
 field-bit x k b i h = bit-num b (λ i. bit x (k + i)) i h
 
 pub bit-mod : (n x i : ℕ) → i < n → bit (x % 2 ^ n) i ≡ bit x i

@@ -21,9 +21,9 @@ use Rattle.model.proofs.BitLaws.{num-cong}
 use Rattle.model.proofs.CodeLaws.{blend-byte}
 use Rattle.model.proofs.Decisions.{split, both-true}
 use Rattle.model.proofs.PixelLaws.{inside-of, pixels-in}
-use Rattle.raster.specs.declared.place.Spot.{Spot}
-use Rattle.raster.specs.Operations.{Truth, truthOf, chosen, field}
-use Rattle.raster.specs.Place.{Placed, Lies, Drawable}
+use Rattle.raster.specs.declared.place.PixelPlace.{PixelPlace}
+use Rattle.raster.specs.Operations.{Truth, truthOf, chosen, bitField}
+use Rattle.raster.specs.Place.{PlaceFits, Lies, Drawable}
 use Rattle.raster.specs.Pixels.{blending, overlaid}
 use Rattle.raster.proofs.BitLaws.{bit-mod, bit-shl, field-bit}
 use Rattle.raster.proofs.ByteLaws.{chosen-bit}
@@ -39,10 +39,10 @@ masked false true n d = refl
 masked false false n d = refl
 
 -- the byte that the code stores is the byte with the pixel's field blended
-pub overlaid-blend : (old : ℕ) (p : Spot) (b : ℕ) (pen : Pen) (source : Source) (t : Truth) (byte : ℕ) → t ≡ truthOf (pen .op)
+pub overlaid-blend : (old : ℕ) (p : PixelPlace) (b : ℕ) (pen : Pen) (source : Source) (t : Truth) (byte : ℕ) → t ≡ truthOf (pen .op)
     → ((i : ℕ) → p .shift ≤ i → i < p .shift + b → bit byte i ≡ sourceBit source (8 * p .half + p .shift) (i - p .shift))
-    → overlaid old p b (pen .mask) t byte ≡ splice old (p .shift) b (blend b (8 * p .half + p .shift) pen source (field old (p .shift) b))
-unfolding overlaid field
+    → overlaid old p b (pen .mask) t byte ≡ splice old (p .shift) b (blend b (8 * p .half + p .shift) pen source (bitField old (p .shift) b))
+unfolding overlaid bitField
 overlaid-blend old p b pen source t byte e h = num-cong 8 _ _ each ∙ sym (blend-byte old (p .shift) (p .half) b pen source)
   where
     S : ℕ → Bool
@@ -66,14 +66,14 @@ overlaid-blend old p b pen source t byte e h = num-cong 8 _ _ each ∙ sym (blen
 -- ## A source byte
 
 -- the half of a colour word that lies over the pixel's byte
-pub colour-bits : (p : Spot) (colour i : ℕ) {byte : ℕ} → byte ≡ field colour (8 * p .half) 8
+pub colour-bits : (p : PixelPlace) (colour i : ℕ) {byte : ℕ} → byte ≡ bitField colour (8 * p .half) 8
     → p .shift ≤ i → i < 8 → bit byte i ≡ sourceBit (Colour colour) (8 * p .half + p .shift) (i - p .shift)
 colour-bits p colour i e h l =
     let k : 8 * p .half + i ≡ 8 * p .half + p .shift + (i - p .shift) = omega arith in
     ap (λ (z : ℕ). bit z i) e ∙ field-bit colour (8 * p .half) 8 i l ∙ ap (bit colour) k
 
 -- a copied value shifted to the pixel's bits
-pub value-bits : (p : Spot) (value i : ℕ)
+pub value-bits : (p : PixelPlace) (value i : ℕ)
     → p .shift ≤ i → i < 8 → bit (value * 2 ^ p .shift % 2 ^ 8) i ≡ sourceBit (Copied value) (8 * p .half + p .shift) (i - p .shift)
 value-bits p value i h l =
     let k : i ≡ p .shift + (i - p .shift) = omega arith in
@@ -82,8 +82,8 @@ value-bits p value i h l =
 -- ## A pixel in its buffer
 
 module _ (s : Surface) (buffer : List ℕ) (x y : ℕ) (d : Drawable s buffer x y) where
-  pub placed : length buffer < 2 ^ 64 → Placed s x y
-  placed l =
+  pub place-fits : length buffer < 2 ^ 64 → PlaceFits s x y
+  place-fits l =
       let b = depth-bounds (d .fits .depth) in
       let w : 0 < s .words = omega (arith, d .column, d .fits .right, mul-le-mul-left (s .left + s .width) (b .0)) in
       record {
@@ -93,18 +93,18 @@ module _ (s : Surface) (buffer : List ℕ) (x y : ℕ) (d : Drawable s buffer x 
         byte = omega (arith, byte-fits s buffer (d .fits) x y (d .column) (d .row));
       }
 
-  module _ (p : Spot) (q : Lies s x y p) where
+  module _ (p : PixelPlace) (q : Lies s x y p) where
     at-is : placeBit s x y / 8 ≡ p .at
     at-is = omega (arith, q .bit, q .inside, depth-bounds (d .fits .depth))
 
     shift-is : placeBit s x y % 8 ≡ p .shift
     shift-is = omega (arith, q .bit, q .inside, depth-bounds (d .fits .depth))
 
-    pub spot-in : p .at < length buffer
-    spot-in = omega (arith, byte-fits s buffer (d .fits) x y (d .column) (d .row), at-is)
+    pub place-in : p .at < length buffer
+    place-in = omega (arith, byte-fits s buffer (d .fits) x y (d .column) (d .row), at-is)
 
-    pub pixels-at : pixels s buffer x y ≡ field (getD buffer (p .at) 0) (p .shift) (s .bits)
-    unfolding fieldAt field
+    pub pixels-at : pixels s buffer x y ≡ bitField (getD buffer (p .at) 0) (p .shift) (s .bits)
+    unfolding fieldAt bitField
     pixels-at =
         pixels-in s buffer x y (inside-of s x y (d .column) (d .row))
         ∙ ap₂ (λ (a k : ℕ). num (s .bits) (λ i. bit (getD buffer a 0) (k + i))) at-is shift-is

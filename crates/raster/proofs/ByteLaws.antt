@@ -6,8 +6,8 @@ use lib.Bits.{bitAnd}
 use Rattle.model.specs.Words.{bit, num, within}
 use Rattle.model.specs.Operations.{opBit}
 use Rattle.model.proofs.BitLaws.{bit-num, num-cong}
-use Rattle.raster.specs.declared.place.Spot.{Spot}
-use Rattle.raster.specs.Operations.{Truth, truthOf, spread, muxed, chosen, field}
+use Rattle.raster.specs.declared.place.PixelPlace.{PixelPlace}
+use Rattle.raster.specs.Operations.{Truth, truthOf, spread, muxed, chosen, bitField}
 use Rattle.raster.specs.Pixels.{overlaid}
 use Rattle.raster.proofs.BitLaws.{bit-and, muxed-bit, field-bit}
 
@@ -31,7 +31,8 @@ pub chosen-bit : (code s d i : ℕ) → i < 8 → bit (chosen (truthOf code) s d
 unfolding chosen truthOf
 chosen-bit code s d i h =
     muxed-bit d (muxed s a b) (muxed s e f) i h
-    ∙ ap₂ (cond (bit d i)) (row e f (opBit code false true) (opBit code true true) (spread-bit (opBit code false true) i h) (spread-bit (opBit code true true) i h))
+    ∙ ap₂ (cond (bit d i)) (row e f (opBit code false true) (opBit code true true) (spread-bit (opBit code false true) i h)
+    (spread-bit (opBit code true true) i h))
     (row a b (opBit code false false) (opBit code true false) (spread-bit (opBit code false false) i h) (spread-bit (opBit code true false) i h))
     ∙ chosen-table code (bit s i) (bit d i)
   where
@@ -51,10 +52,12 @@ chosen-bit code s d i h =
     row x y p q u v = muxed-bit s x y i h ∙ ap₂ (λ (p q : Bool). cond (bit s i) q p) u v
 
 -- the byte that the code makes: under the mask's half and the pixel's field the truth table's entries, else the old bits
-pub overlaid-is : (old : ℕ) (p : Spot) (b mask : ℕ) (t : Truth) (source : ℕ) {m f : ℕ} → m ≡ field mask (8 * p .half) 8 → f ≡ num 8 (within (p .shift) b)
+pub overlaid-is : (old : ℕ) (p : PixelPlace) (b mask : ℕ) (t : Truth) (source : ℕ) {m f : ℕ} → m ≡ bitField mask (8 * p .half) 8 → f
+    ≡ num 8 (within (p .shift) b)
     → muxed (bitAnd m f) old (chosen t source old) ≡ overlaid old p b mask t source
 unfolding muxed overlaid
 overlaid-is old p b mask t source {m} {f} em ef = num-cong 8 _ _ λ i l.
     ap (λ (z : Bool). cond z (bit (chosen t source old) i) (bit old i))
     (bit-and i m f
-    ∙ ap₂ (λ (x y : Bool). x && y) (ap (λ (z : ℕ). bit z i) em ∙ field-bit mask (8 * p .half) 8 i l) (ap (λ (z : ℕ). bit z i) ef ∙ bit-num 8 (within (p .shift) b) i l))
+    ∙ ap₂ (λ (x y : Bool). x && y) (ap (λ (z : ℕ). bit z i) em ∙ field-bit mask (8 * p .half) 8 i l)
+    (ap (λ (z : ℕ). bit z i) ef ∙ bit-num 8 (within (p .shift) b) i l))

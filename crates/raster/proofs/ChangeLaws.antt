@@ -1,6 +1,6 @@
 -- Changes to pixels of a surface: the pixel takes its new value, every other keeps its own, and changes to two pixels may be made in either
 -- order. A change inside the surface sets one byte: it replaces a field of it by what its old value gives. Assumes nothing.
-use mathlib.Core.Path.{_≡_, refl, sym, ap, _∙_}
+use mathlib.Core.Path.{_≡_, sym, ap, _∙_}
 use mathlib.Core.Logic.{_≢_, _⊎_, inl, inr}
 use mathlib.Core.Bool.{Bool, true, false, cond, _&&_}
 use mathlib.Core.List.{List}
@@ -19,11 +19,11 @@ use Rattle.model.specs.declared.Surface.{Surface}
 use Rattle.model.specs.declared.Pen.{Pen}
 use Rattle.model.specs.declared.Source.{Source}
 use Rattle.model.proofs.BitLaws.{bit-num, num-cong}
-use Rattle.model.proofs.Decisions.{split, cond-true, cond-false}
+use Rattle.model.proofs.Decisions.{split, and-false, cond-true, cond-false}
 use Rattle.model.proofs.FieldLaws.{put-keeps, put-field, field-bits}
 use Rattle.model.proofs.PlaceLaws.{in-byte, in-rows, apart}
 use Rattle.model.proofs.PixelLaws.{inside-true, inside-of, pixels-in}
-use Rattle.raster.specs.Operations.{field}
+use Rattle.raster.specs.Operations.{bitField}
 use Rattle.raster.specs.Pixels.{blending}
 use Rattle.raster.proofs.BitLaws.{num-lt}
 
@@ -33,15 +33,11 @@ use Rattle.raster.proofs.BitLaws.{num-lt}
 abbrev Apart : ℕ → ℕ → ℕ → Type 0
 Apart b k k′ = (k + b ≤ k′) ⊎ (k′ + b ≤ k)
 
-and-false : (x : Bool) → (x && false) ≡ false
-and-false true = refl
-and-false false = refl
-
 below : (k b i : ℕ) → i < k → within k b i ≡ false
 below k b i h = ap (λ (x : Bool). x && ltb i (k + b)) (lt-leb k i h)
 
 above : (k b i : ℕ) → k + b ≤ i → within k b i ≡ false
-above k b i h = ap (λ (x : Bool). leb k i && x) (le-ltb i (k + b) h) ∙ and-false (leb k i)
+above k b i h = and-false (leb k i) (ltb i (k + b)) (le-ltb i (k + b) h)
 
 -- no bit is in both of two fields that are apart
 one-only : (k k′ b i : ℕ) → Apart b k k′ → (within k b i ≡ false) ⊎ (within k′ b i ≡ false)
@@ -53,8 +49,8 @@ unfolding splice
 splice-bit z k b v i h = bit-num 8 (λ i. cond (within k b i) (bit v (i - k)) (bit z i)) i h
 
 -- a field keeps its value where another is replaced
-field-splice : (z k k′ b v : ℕ) → k + b ≤ 8 → Apart b k k′ → field (splice z k′ b v) k b ≡ field z k b
-unfolding field
+field-splice : (z k k′ b v : ℕ) → k + b ≤ 8 → Apart b k k′ → bitField (splice z k′ b v) k b ≡ bitField z k b
+unfolding bitField
 field-splice z k k′ b v h a = num-cong b _ _ λ i l.
     splice-bit z k′ b v (k + i) (omega arith) ∙ cond-false (bit v (k + i - k′)) (bit z (k + i)) (out i l a)
   where
@@ -75,13 +71,14 @@ splice-comm z k k′ b v v′ a = num-cong 8 _ _ λ i l.
 
 -- a byte with one field replaced by what its old value gives
 abbrev pub replaced : ℕ → ℕ → (ℕ → ℕ) → ℕ → ℕ
-replaced k b new z = splice z k b (new (field z k b))
+replaced k b new z = splice z k b (new (bitField z k b))
 
-replaced-comm : (k k′ b : ℕ) (f g : ℕ → ℕ) → k + b ≤ 8 → k′ + b ≤ 8 → Apart b k k′ → (z : ℕ) → replaced k b f (replaced k′ b g z) ≡ replaced k′ b g (replaced k b f z)
+replaced-comm : (k k′ b : ℕ) (f g : ℕ → ℕ) → k + b ≤ 8 → k′ + b ≤ 8 → Apart b k k′ → (z : ℕ) → replaced k b f (replaced k′ b g z)
+    ≡ replaced k′ b g (replaced k b f z)
 replaced-comm k k′ b f g h h′ a z =
-    ap (λ (u : ℕ). splice (replaced k′ b g z) k b (f u)) (field-splice z k k′ b (g (field z k′ b)) h a)
-    ∙ splice-comm z k k′ b (f (field z k b)) (g (field z k′ b)) a
-    ∙ ap (λ (u : ℕ). splice (replaced k b f z) k′ b (g u)) (sym (field-splice z k′ k b (f (field z k b)) h′ (flip a)))
+    ap (λ (u : ℕ). splice (replaced k′ b g z) k b (f u)) (field-splice z k k′ b (g (bitField z k′ b)) h a)
+    ∙ splice-comm z k k′ b (f (bitField z k b)) (g (bitField z k′ b)) a
+    ∙ ap (λ (u : ℕ). splice (replaced k b f z) k′ b (g u)) (sym (field-splice z k′ k b (f (bitField z k b)) h′ (flip a)))
   where
     flip : Apart b k k′ → Apart b k′ k
     flip (inl l) = inr l
@@ -126,7 +123,7 @@ bitOf u c = placeBit u (c .x) (c .y) % 8
 
 pub change-in : (u : Surface) (c : Change) (s : List ℕ) → inside u (c .x) (c .y) ≡ true
     → change u c s ≡ updated (byteOf u c) (replaced (bitOf u c) (u .bits) (c .new)) s
-unfolding change putField fieldAt field
+unfolding change putField fieldAt bitField
 change-in u c s e =
     cond-true _ _ e
     ∙ ap (λ (v : ℕ). set s (byteOf u c) (splice (getD s (byteOf u c) 0) (bitOf u c) (u .bits) (c .new v))) (pixels-in u s (c .x) (c .y) e)
@@ -191,7 +188,8 @@ module _ (u : Surface) (s : List ℕ) (f : Fits u s) where
           ∙ sym (change-in u d (change u c s) g ∙ ap (updated (byteOf u d) G) (change-in u c s e))
 
   -- the pixel takes its new value ..
-  pub pixels-changed : (c : Change) → inside u (c .x) (c .y) ≡ true → pixels u (change u c s) (c .x) (c .y) ≡ num (u .bits) (bit (c .new (pixels u s (c .x) (c .y))))
+  pub pixels-changed : (c : Change) → inside u (c .x) (c .y) ≡ true → pixels u (change u c s) (c .x) (c .y)
+      ≡ num (u .bits) (bit (c .new (pixels u s (c .x) (c .y))))
   unfolding change
   pixels-changed c e =
       let h = inside-true u (c .x) (c .y) e in
@@ -222,7 +220,8 @@ module _ (u : Surface) (s : List ℕ) (f : Fits u s) where
           ap (λ (l : List ℕ). pixels u l x y) (cond-true _ _ g)
           ∙ pixels-in u m x y e
           ∙ field-bits m s (placeBit u x y) (u .bits) (bit-fits x y)
-          (λ j l. put-keeps s (placeBit u (c .x) (c .y)) (u .bits) v (placeBit u x y + j) (byte-fits (c .x) (c .y) (k .0) (k .1)) (bit-fits (c .x) (c .y)) (side j l far))
+          (λ j l. put-keeps s (placeBit u (c .x) (c .y)) (u .bits) v (placeBit u x y + j) (byte-fits (c .x) (c .y) (k .0) (k .1)) (bit-fits (c .x) (c .y))
+          (side j l far))
           ∙ sym (pixels-in u s x y e)
 
 -- ## Blends

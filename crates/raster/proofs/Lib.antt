@@ -2,6 +2,6 @@
 pub mod Table
 pub mod BitLaws
 pub mod ByteLaws
-pub mod SpotLaws
+pub mod PlaceLaws
 pub mod ChangeLaws
 pub mod BlendLaws

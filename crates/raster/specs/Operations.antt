@@ -10,10 +10,13 @@ abbrev pub spread : Bool → ℕ
 spread true = 255
 spread false = 0
 
--- the truth table of a code, A B C D, each bit over a whole byte
+-- what an operation makes of a source bit and an old bit, over a whole byte
+abbrev entry : ℕ → Bool → Bool → ℕ
+entry code source old = spread (opBit code source old)
+
+-- the truth table of a code, A B C D
 unfoldable pub truthOf : ℕ → Truth
-truthOf code =
-    (spread (opBit code false false), spread (opBit code true false), spread (opBit code false true), spread (opBit code true true))
+truthOf code = (entry code false false, entry code true false, entry code false true, entry code true true)
 
 -- the byte that has y's bit where m's is 1, else x's
 unfoldable pub muxed : ℕ → ℕ → ℕ → ℕ
@@ -24,5 +27,5 @@ unfoldable pub chosen : Truth → ℕ → ℕ → ℕ
 chosen t s d = muxed d (muxed s (t .0) (t .1)) (muxed s (t .2) (t .3))
 
 -- the b bits of x from k on, as a number
-unfoldable pub field : ℕ → ℕ → ℕ → ℕ
-field x k b = num b (λ i. bit x (k + i))
+unfoldable pub bitField : ℕ → ℕ → ℕ → ℕ
+bitField x k b = num b (λ i. bit x (k + i))

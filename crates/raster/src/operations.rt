@@ -2,7 +2,7 @@
 ghost use mathlib.Core.Path.{_≡_};
 ghost use Prim.Native.Nat.{_+_, _*_, _<_, _≤_};
 ghost use Rattle.model.specs.Words.{num, within};
-ghost use Rattle.raster.specs.Operations.{truthOf, muxed, chosen, field};
+ghost use Rattle.raster.specs.Operations.{truthOf, muxed, chosen, bitField};
 
 // A truth table, each of its four bits spread over a byte: A, B, C and D of its code.
 pub struct Truth(pub u8, pub u8, pub u8, pub u8);
@@ -57,7 +57,7 @@ pub fn operate(truth: Truth, source: u8, old: u8) -> u8
 // One byte of a word: 0 the low one, 1 the high one.
 pub fn half_of(word: u16, half: usize) -> u8
     requires { ⌜ half < 2 ⌝ }
-    ensures { λ r. ⌜ r ≡ field word (8 * half) 8 ⌝ }
+    ensures { λ r. ⌜ r ≡ bitField word (8 * half) 8 ⌝ }
 {
     ((word >> (8 * half)) % 256) as u8
 }
@@ -73,7 +73,7 @@ pub fn field_mask(k: usize, b: usize) -> u8
 // The b bits of a byte from k on, as a number.
 pub fn field_of(byte: u8, k: usize, b: usize) -> u8
     requires { ⌜ k + b ≤ 8 ⌝ }
-    ensures { λ r. ⌜ r ≡ field byte k b ⌝ }
+    ensures { λ r. ⌜ r ≡ bitField byte k b ⌝ }
 {
     (((byte as u32) >> k) % (1u32 << b)) as u8
 }

@@ -4,7 +4,7 @@ use mathlib.Core.Bool.{Bool, false, not, _&&_, _||_}
 use Prim.Native.Nat.{ℕ, _%_, _≤_, _<_}
 use native.Mathlib.Omega.{arith}
 use lib.Dec.{ltb, eqb}
-use borrow.Author.Tests.{ltb-false, le-ltb, eqb-true, eqb-false, eq-eqb, ne-eqb, not-false}
+use borrow.Author.Tests.{ltb-false, le-ltb, lt-leb, eqb-true, eqb-false, eq-eqb, ne-eqb, not-false}
 use Rattle.model.specs.declared.Geometry.{Geometry}
 use Rattle.model.specs.declared.Row.{Row}
 use Rattle.model.specs.declared.Progress.{Progress}
@@ -16,10 +16,12 @@ use Rattle.model.specs.declared.Flags.{Flags}
 use Rattle.model.specs.declared.Returns.{Returns}
 use Rattle.model.specs.declared.Pane.{Pane}
 use Rattle.model.specs.Ranges.{outOf}
+use Rattle.model.specs.Words.{addressEnd}
 use Rattle.model.specs.Numbers.{statusRunning, statusFaulted}
 use Rattle.model.specs.Bitmaps.{ruleBroken}
 use Rattle.model.specs.Faults.{clipOutside}
-use Rattle.model.specs.Record.{fresh, withPointer, ended, faulted, withPosition, withBitmap, withClip, withColours, withOperation, withPattern, withSpacing, withOrientation, withFont, withFlags, withReturns}
+use Rattle.model.specs.Record.{fresh, withPointer, ended, faulted, withPosition, withBitmap, withClip, withColours, withOperation, withPattern, withSpacing}
+use Rattle.model.specs.Record.{withOrientation, withFont, withFlags, withReturns}
 use Rattle.model.specs.Setup.{progressBad, baseBad, fontBad, paneBad}
 use Rattle.model.specs.Calls.{started}
 use Rattle.model.proofs.Decisions.{split, either-false}
@@ -43,8 +45,9 @@ module _ (p : Progress) where
     none = λ n. eqb-true (p .fault) 0 (not-false (eqb (p .fault) 0) (rw (ne-eqb (p .status) statusFaulted n) at (b .1)));
   }
     where
-      a : (ltb 3 (p .status) ≡ false) × (((eqb (p .status) statusFaulted && outOf 20 29 (p .fault)) || (not (eqb (p .status) statusFaulted) && not (eqb (p .fault) 0))) ≡ false)
-      a = either-false (ltb 3 (p .status)) _ h
+      a : (ltb statusFaulted (p .status) ≡ false) × (((eqb (p .status) statusFaulted && outOf 20 29 (p .fault)) ||
+          (not (eqb (p .status) statusFaulted) && not (eqb (p .fault) 0))) ≡ false)
+      a = either-false (ltb statusFaulted (p .status)) _ h
 
       b : ((eqb (p .status) statusFaulted && outOf 20 29 (p .fault)) ≡ false) × ((not (eqb (p .status) statusFaulted) && not (eqb (p .fault) 0)) ≡ false)
       b = either-false (eqb (p .status) statusFaulted && outOf 20 29 (p .fault)) (not (eqb (p .status) statusFaulted) && not (eqb (p .fault) 0)) (a .1)
@@ -54,17 +57,17 @@ module _ (p : Progress) where
 
   pub good-progressBad : GoodProgress p → progressBad p ≡ false
   unfolding progressBad
-  good-progressBad q = either-none (le-ltb 3 (p .status) (q .status)) (split (eqb (p .status) statusFaulted)
+  good-progressBad q = either-none (le-ltb statusFaulted (p .status) (q .status)) (split (eqb (p .status) statusFaulted)
       (λ e. let f = eqb-true (p .status) statusFaulted e in rw (e, le-ltb (p .fault) 20 (q .least f), le-ltb 29 (p .fault) (q .most f)))
       (λ e. rw (e, eq-eqb (p .fault) 0 (q .none (eqb-false (p .status) statusFaulted e)))))
 
 -- a font's base
 pub record GoodBase (a : ℕ) : Type 0 where
   pub even : a % 2 ≡ 0
-  pub most : a < 4194304
+  pub most : a < addressEnd
 
 pub good-baseBad : (a : ℕ) → GoodBase a → baseBad a ≡ false
-good-baseBad a q = let e = q .even in let m = q .most in either-none (ne-eqb (a % 2) 1 (λ o. omega arith)) (le-ltb 0x3FFFFF a (omega arith))
+good-baseBad a q = let e = q .even in let m = q .most in either-none (ne-eqb (a % 2) 1 (λ o. omega arith)) (lt-leb addressEnd a m)
 
 module _ (g : Geometry) (r : Row) (p : Pane) where
   pub paneBad-good : paneBad g r p ≡ false → Good g r p
@@ -109,7 +112,8 @@ module _ {g : Geometry} {r : Row} {p : Pane} (q : Good g r p) where
   -- only a running list ends
   pub good-ended : p .progress .status ≡ statusRunning → Good g r (ended p)
   good-ended h = record {
-    progress = record { status = omega arith; least = λ f. absurd (omega arith); most = λ f. absurd (omega arith); none = λ f. q .progress .none (λ e. omega arith) };
+    progress =
+        record { status = omega arith; least = λ f. absurd (omega arith); most = λ f. absurd (omega arith); none = λ f. q .progress .none (λ e. omega arith) };
     rule = q .rule;
     clip = q .clip;
     op = q .op;

@@ -5,8 +5,8 @@ use Rattle.model.specs.Setup.{rowAt, paneAt}
 use Rattle.bitmaps.specs.Places.{Placed}
 use Rattle.refusals.specs.Good.{Good}
 
--- pane k has a row and a record among the eight, its store lies in the stores buffer, and both its place and its record are good; by the
--- console record and the lengths of the two buffers
+-- pane k has a row and a record among the eight, its store lies in the stores buffer, and both its place and
+-- its record are good; by the console record and the lengths of the two buffers
 pub record Admitted (c : Console) (screen stores k : ℕ) : Type 0 where
   pub below : k < c .count
   pub count : c .count ≤ 8

@@ -13,7 +13,7 @@ use Rattle.model.specs.Faults.{clipOutside}
 use Rattle.model.specs.Setup.{fontBad}
 
 pub record GoodProgress (p : Progress) : Type 0 where
-  pub status : p .status ≤ 3
+  pub status : p .status ≤ statusFaulted
   pub least : p .status ≡ statusFaulted → 20 ≤ p .fault
   pub most : p .status ≡ statusFaulted → p .fault ≤ 29
   pub none : (p .status ≡ statusFaulted → ⊥) → p .fault ≡ 0

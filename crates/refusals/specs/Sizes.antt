@@ -23,7 +23,8 @@ pub record Sized (g : Geometry) (n : ℕ) : Type 0 where
 unfoldable pub someRow : ℕ → (Row → Bool) → List Row → Bool
 someRow n f rows = anyBelow n (λ k. f (rowAt rows k))
 
--- some two of the first n rows pass the test
+-- some two of the first n rows pass the test: `anyPair` under a name of its own, so that a loop's proof sees
+-- one term
 unfoldable pub somePair : ℕ → (Row → Row → Bool) → List Row → Bool
 somePair n f rows = anyPair n f rows
 

@@ -2,27 +2,30 @@
 use bitmaps::clip_outside;
 use bitmaps::rule_broken;
 use model::Font;
-use model::Geometry;
+use model::Frame;
 use model::Pane;
 use model::Progress;
-use model::Row;
+use model::STATUS_FAULTED;
 ghost use mathlib.Core.Path.{_≡_};
 ghost use Rattle.model.specs.Setup.{progressBad, baseBad, fontBad, paneBad};
+
+// "Addresses have 22 bits": each is below this.
+const ADDRESS_END: u32 = 0x400000;
 
 // Whether status and fault don't go together.
 fn progress_bad(p: Progress) -> bool
     ensures { λ r. ⌜ r ≡ progressBad p ⌝ }
 {
-    (p.status > 3)
-        | (((p.status == 3) & ((p.fault < 20) | (p.fault > 29)))
-            | (!(p.status == 3) & !(p.fault == 0)))
+    (p.status > STATUS_FAULTED)
+        | (((p.status == STATUS_FAULTED) & ((p.fault < 20) | (p.fault > 29)))
+            | (!(p.status == STATUS_FAULTED) & !(p.fault == 0)))
 }
 
 // Whether a font base is odd or above 22 bits.
 fn base_bad(base: u32) -> bool
     ensures { λ r. ⌜ r ≡ baseBad base ⌝ }
 {
-    (base % 2 == 1) | (base > 0x3FFFFF)
+    (base % 2 == 1) | (base >= ADDRESS_END)
 }
 
 // Whether a font's base is odd or above 22 bits; no font has none.
@@ -36,9 +39,9 @@ fn font_bad(f: Font) -> bool
     }
 }
 
-// Whether a pane record is one that refusal 12 refuses, by the geometry and the pane's row.
-pub fn pane_bad(g: Geometry, r: Row, p: Pane) -> bool
-    ensures { λ res. ⌜ res ≡ paneBad g r p ⌝ }
+// Whether a pane record is one that refusal 12 refuses, for a pane seen through this frame.
+pub fn pane_bad(f: Frame, p: Pane) -> bool
+    ensures { λ r. ⌜ r ≡ paneBad (f .geometry) (f .row) p ⌝ }
 {
     let progress = p.progress;
     let bitmap = p.bitmap;
@@ -48,7 +51,7 @@ pub fn pane_bad(g: Geometry, r: Row, p: Pane) -> bool
     let font = text.font;
     let returns = p.returns;
     progress_bad(progress)
-        | (rule_broken(g, r, bitmap)
+        | (rule_broken(f, bitmap)
             | (clip_outside(bitmap, clip)
                 | (font_bad(font)
                     | ((pen.op > 15)

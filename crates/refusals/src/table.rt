@@ -5,8 +5,8 @@ use bitmaps::share_span;
 use model::Console;
 use model::Geometry;
 use model::Row;
+use words::number_if;
 ghost use mathlib.Core.Path.{_≡_};
-ghost use mathlib.Core.Bool.{cond};
 ghost use Prim.Native.Nat.{_≤_};
 ghost use Rattle.model.specs.Ranges.{outOf};
 ghost use Rattle.model.specs.Setup.{geometryBad, screenBytes, rectangleBad, storeBad, sharePixel, shareByte, checks};
@@ -117,7 +117,8 @@ pub struct Findings {
 // Whether a row shares a pixel, or a byte of its store, with one of the first n rows.
 fn shared(rows: [Row; 8], n: usize, r: Row) -> Sharing
     requires { ⌜ n ≤ 8 ⌝ }
-    ensures { λ res. ⌜ (res .pixel ≡ someRow n (λ s. sharePixel s r) rows) × (res .byte ≡ someRow n (λ s. shareByte s r) rows) ⌝ }
+    ensures { λ res. ⌜ (res .pixel ≡ someRow n (λ s. sharePixel s r) rows)
+        × (res .byte ≡ someRow n (λ s. shareByte s r) rows) ⌝ }
 {
     let mut pixel = false;
     let mut byte = false;
@@ -158,26 +159,19 @@ fn found(stores: usize, g: Geometry, rows: [Row; 8], n: usize) -> Findings
     }
 }
 
-// The refusal's number where the test holds, else the rest.
-pub fn refuse(bad: bool, number: u8, rest: u8) -> u8
-    ensures { λ r. ⌜ r ≡ cond bad number rest ⌝ }
-{
-    if bad { number } else { rest }
-}
-
 // The first of the refusals 7 to 11 that applies, or 0, once 6 does not.
 fn table_refusal(screen: usize, stores: usize, g: Geometry, rows: [Row; 8], n: usize) -> u8
     requires { ⌜ Sized g n ⌝ }
     ensures { λ res. ⌜ res ≡ tableChecks g n rows screen stores ⌝ }
 {
     let f = found(stores, g, rows, n);
-    let pair = refuse(f.pixel, REFUSE_OVERLAP, refuse(f.byte, REFUSE_SHARED, 0));
-    let row = refuse(
+    let pair = number_if(f.pixel, REFUSE_OVERLAP, number_if(f.byte, REFUSE_SHARED, 0));
+    let row = number_if(
         f.rectangle,
         REFUSE_RECTANGLE,
-        refuse(f.store, REFUSE_STORE, pair),
+        number_if(f.store, REFUSE_STORE, pair),
     );
-    refuse(screen < screen_bytes(g), REFUSE_SCREEN, row)
+    number_if(screen < screen_bytes(g), REFUSE_SCREEN, row)
 }
 
 // The first of set-up's refusals that applies, by the lengths of the two buffers, or 0.

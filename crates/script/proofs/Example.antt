@@ -8,10 +8,10 @@ use Rattle.model.proofs.Computing.{machine}
 use Rattle.script_fields.specs.Numbers.{longer, extended, andDigits, spelledNumber}
 use Rattle.script_fields.specs.Fields.{onFirst, pieces, spelledBytes, numbersOf, lineNumbers}
 use Rattle.script_lines.specs.declared.Language.the-variants as language
-use Rattle.script_lines.specs.Lines.{screenLine, paneLine, openLine, putLine, startLine, runLine, lookLine, pixelLine, byFurtherLetter, byLetter, lettered, lineOf}
-use Rattle.script_numerals.specs.Numerals.{numeral, listed}
+use Rattle.script_lines.specs.Lines.{formIn, lineBy, lineByLetter, lineOf}
+use Rattle.script_numerals.specs.Numerals.{numeral, commaSeparated}
 use Rattle.script_replies.specs.Replies.{replyText}
-use Rattle.script_session.specs.Desk.{made, restored, obeyed}
+use Rattle.script_session.specs.SessionState.{callMade, wholeBuffers, afterLine}
 use Rattle.script.specs.Scripts.{printed, answered}
 
 -- the bytes of a text
@@ -22,5 +22,6 @@ bytes (c ∷ s) = code c then bytes s
 pub example :
     answered language.Panes (bytes "s,16,2,1\np,0,0,8,2,32\no\nw,0,0,003d010000000100\ng,0,0\nr,0,5\nl,0\nx,0,3,1\ng,1,0\n")
     ≡ bytes "o,0\nw,0\ng,0\nr,0,1,2,0\nl,0,2,0,6,0,0,0,0\nx,0,0\ng,1\n"
-unfolding machine longer extended andDigits spelledNumber onFirst pieces spelledBytes numbersOf lineNumbers screenLine paneLine openLine putLine startLine runLine lookLine pixelLine byFurtherLetter byLetter lettered lineOf numeral listed replyText made restored obeyed printed answered
+unfolding machine longer extended andDigits spelledNumber onFirst pieces spelledBytes numbersOf lineNumbers formIn lineBy lineByLetter lineOf numeral
+    commaSeparated replyText callMade wholeBuffers afterLine printed answered
 example = refl

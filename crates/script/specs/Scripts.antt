@@ -1,38 +1,39 @@
--- The script program as a whole, in the language of `panes` or of `calls`: "reads lines from standard input" and prints their replies.
-use Prim.Native.Nat.{ℕ}
+-- The script program as a whole, in the language of `panes` or of `calls`: "reads lines from standard input"
+-- and prints their replies.
+use Prim.Native.Nat.{ℕ, _*_}
 use mathlib.Core.Bool.{cond}
 use mathlib.Core.List.{List, [], _∷_, _++_}
 use lib.Dec.{ltb}
 use lib.ListN.{length, replicate}
-use Rattle.script_fields.specs.Fields.{linesOf}
+use Rattle.script_fields.specs.Fields.{linesOf, mostScript}
 use Rattle.script_lines.specs.declared.Language.{Language}
 use Rattle.script_lines.specs.Lines.{lineOf}
-use Rattle.script_session.specs.Desk.{LineOutcome, question, silence, replying, Desk, desk, begun, obeyed, mostScreen, mostStores}
-use Rattle.script_replies.specs.Replies.{replyText, malformedText}
+use Rattle.script_session.specs.SessionState.{LineOutcome, question, silence, replying, SessionState, sessionState}
+use Rattle.script_session.specs.SessionState.{newSession, afterLine, mostScreen, mostStores}
+use Rattle.script_replies.specs.Replies.{replyText, malformedText, mostReply}
 
 -- what a line prints: "?", nothing, or its reply
-abbrev pub textOf : LineOutcome → List ℕ
-textOf question = malformedText
-textOf silence = []
-textOf (replying letter r) = replyText letter r
+abbrev pub outcomeText : LineOutcome → List ℕ
+outcomeText question = malformedText
+outcomeText silence = []
+outcomeText (replying letter r) = replyText letter r
 
 -- what lines print, one after the other
-unfoldable pub printed : Language → List (List ℕ) → Desk → List ℕ
+unfoldable pub printed : Language → List (List ℕ) → SessionState → List ℕ
 printed language [] d = []
-printed language (l ∷ ls) d = let m = obeyed (lineOf language l) d in textOf (m .outcome) ++ printed language ls (m .desk)
+printed language (l ∷ ls) d =
+    let m = afterLine (lineOf language l) d in
+    outcomeText (m .outcome) ++ printed language ls (m .state)
 
 -- "screen and stores zeroed"
-abbrev pub empty : Desk
-empty = desk begun (replicate mostScreen 0) (replicate mostStores 0)
-
--- "Limits: script 8,192 bytes"
-abbrev pub mostScript : ℕ
-mostScript = 8192
+abbrev pub newState : SessionState
+newState = sessionState newSession (replicate mostScreen 0) (replicate mostStores 0)
 
 -- "a longer script prints only ?"
 unfoldable pub answered : Language → List ℕ → List ℕ
-answered language script = cond (ltb mostScript (length script)) malformedText (printed language (linesOf script) empty)
+answered language script =
+    cond (ltb mostScript (length script)) malformedText (printed language (linesOf script) newState)
 
--- bytes for all that a script can print: 96 for each byte of the longest
+-- bytes for all that a script can print: those of a reply for each byte of the longest
 abbrev pub room : ℕ
-room = 786432
+room = mostReply * mostScript

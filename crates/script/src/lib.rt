@@ -1,29 +1,34 @@
-// The script program on slices: lines in, replies out, in the language of `panes` or of `calls`. Each line is taken apart into what it says, obeyed, and its reply written: `answered`
-// (specs/Scripts.antt) is the definition of the whole program.
+// The script program on slices: lines in, replies out, in the language of `panes` or of `calls`. Each line is
+// taken apart into what it says, obeyed, and its reply written: `answered` (specs/Scripts.antt) is the
+// definition of the whole program.
+use script_fields::MOST_BYTES;
+pub use script_fields::MOST_SCRIPT;
 use script_lines::Language;
-use script_session::Outcome;
+use script_replies::MOST_REPLY;
+use script_session::LineAnswer;
+use script_session::LineStep;
+use script_session::MOST_SCREEN;
+use script_session::MOST_STORES;
 use script_session::Session;
-use script_session::Step;
 ghost use mathlib.Core.Path.{_≡_};
 ghost use Prim.Native.Nat.{_≤_};
 ghost use lib.ListN.{length, take, replicate};
 ghost use Rattle.io.specs.Counts.{Counts};
-ghost use Rattle.script_fields.specs.Fields.{linesOf};
-ghost use Rattle.script_lines.specs.Lines.{lineOf, meant};
-ghost use Rattle.script_session.specs.Desk.{desk, leaves, outcomeOf, obeyed, begun};
+ghost use Rattle.script_fields.specs.Fields.{linesOf, mostScript, mostBytes};
+ghost use Rattle.script_lines.specs.Lines.{lineOf, lineSaid};
+ghost use Rattle.script_session.specs.SessionState.{sessionState, reactionOf, outcomeOf, afterLine, newSession};
+ghost use Rattle.script_session.specs.SessionState.{mostScreen, mostStores};
 ghost use Rattle.script_numerals.specs.Numerals.{Wrote};
-ghost use Rattle.script.specs.Scripts.{textOf, answered, printed, room};
+ghost use Rattle.script.specs.Scripts.{outcomeText, answered, printed, room};
 
-// The longest script.
-const MOST_SCRIPT: usize = 8192;
-
-// Obeys the lines of a script and writes the replies to the start of a buffer. Answers how many bytes they take. What the buffer has no room
-// for is left out: nothing, where it has `room`.
+// Obeys the lines of a script and writes the replies to the start of a buffer. Answers how many bytes they
+// take. What the buffer has no room for is left out: nothing, where it has `room`.
 pub fn answer(language: Language, script: &[u8], out: &mut [u8]) -> usize
-    ensures { λ r. ⌜ Counts r (now (out .exit)) ⌝ }
-    ensures { λ r. ⌜ take r (now (out .exit))
+    ensures within { λ r. ⌜ Counts r (now (out .exit)) ⌝ }
+    ensures written { λ r. ⌜ take r (now (out .exit))
         ≡ take (length (now (out .entry))) (answered language (now (script .entry))) ⌝ }
-    ensures { λ r. ⌜ (room ≤ length (now (out .entry)) → take r (now (out .exit)) ≡ answered language (now (script .entry))) ⌝ }
+    ensures whole { λ r. ⌜ (room ≤ length (now (out .entry)) →
+        take r (now (out .exit)) ≡ answered language (now (script .entry))) ⌝ }
 {
     if script.len() > MOST_SCRIPT {
         return script_replies::malformed(out, 0);
@@ -42,29 +47,29 @@ pub fn answer(language: Language, script: &[u8], out: &mut [u8]) -> usize
 }
 
 // Room for all that a script can print: `room` bytes, as the array's type says.
-pub fn room() -> [u8; 786432] {
-    [0; 786432]
+pub fn room() -> [u8; MOST_REPLY * MOST_SCRIPT] {
+    [0; MOST_REPLY * MOST_SCRIPT]
 }
 
 // The largest screen, zeroed.
-fn screen_room() -> [u8; 32768]
-    ensures { λ r. ⌜ r ≡ replicate 32768 0 ⌝ }
+fn screen_room() -> [u8; MOST_SCREEN]
+    ensures { λ r. ⌜ r ≡ replicate mostScreen 0 ⌝ }
 {
-    [0; 32768]
+    [0; MOST_SCREEN]
 }
 
 // The largest stores, zeroed.
-fn stores_room() -> [u8; 16384]
-    ensures { λ r. ⌜ r ≡ replicate 16384 0 ⌝ }
+fn stores_room() -> [u8; MOST_STORES]
+    ensures { λ r. ⌜ r ≡ replicate mostStores 0 ⌝ }
 {
-    [0; 16384]
+    [0; MOST_STORES]
 }
 
-// Room for the bytes of one put: two digits each, no more than the longest script has.
-fn bytes_room() -> [u8; 4096]
-    ensures { λ r. ⌜ 4096 ≡ length r ⌝ }
+// Room for the bytes of one put.
+fn bytes_room() -> [u8; MOST_BYTES]
+    ensures { λ r. ⌜ mostBytes ≡ length r ⌝ }
 {
-    [0; 4096]
+    [0; MOST_BYTES]
 }
 
 // Obeys line after line, and answers how many bytes of replies there are.
@@ -76,13 +81,15 @@ fn lines(
     scratch: &mut [u8],
     out: &mut [u8],
 ) -> usize
-    requires { ⌜ length (now script) ≤ 8192 ⌝ }
-    requires { ⌜ 4096 ≤ length (now scratch) ⌝ }
-    ensures { λ r. ⌜ Counts r (now (out .exit)) ⌝ }
-    ensures { λ r. ⌜ take r (now (out .exit))
-        ≡ take (length (now (out .entry))) (printed language (linesOf (now (script .entry))) (desk begun (now (screen .entry)) (now (stores .entry)))) ⌝ }
+    requires { ⌜ length (now script) ≤ mostScript ⌝ }
+    requires { ⌜ mostBytes ≤ length (now scratch) ⌝ }
+    ensures within { λ r. ⌜ Counts r (now (out .exit)) ⌝ }
+    ensures written { λ r. ⌜ take r (now (out .exit))
+        ≡ take (length (now (out .entry)))
+        (printed language (linesOf (now (script .entry)))
+        (sessionState newSession (now (screen .entry)) (now (stores .entry)))) ⌝ }
 {
-    let mut session = script_session::begun();
+    let mut session = script_session::new_session();
     let mut written = 0;
     let mut from = 0;
     while from < script.len() {
@@ -96,8 +103,8 @@ fn lines(
             scratch,
             session,
         );
-        let outcome = step.outcome;
-        written = print(out, written, outcome);
+        let answer = step.answer;
+        written = print(out, written, answer);
         session = step.session;
         from = next;
     }
@@ -112,11 +119,12 @@ fn one_line(
     stores: &mut [u8],
     scratch: &mut [u8],
     session: Session,
-) -> Step
-    requires { ⌜ length (now line) ≤ 8192 ⌝ }
-    requires { ⌜ 4096 ≤ length (now scratch) ⌝ }
-    ensures { λ r. ⌜ leaves r (now (screen .exit)) (now (stores .exit))
-        ≡ obeyed (lineOf language (now (line .entry))) (desk session (now (screen .entry)) (now (stores .entry))) ⌝ }
+) -> LineStep
+    requires { ⌜ length (now line) ≤ mostScript ⌝ }
+    requires { ⌜ mostBytes ≤ length (now scratch) ⌝ }
+    ensures { λ r. ⌜ reactionOf r (now (screen .exit)) (now (stores .exit))
+        ≡ afterLine (lineOf language (now (line .entry)))
+        (sessionState session (now (screen .entry)) (now (stores .entry))) ⌝ }
 {
     let said = script_lines::parse(language, line, scratch);
     obey(said, screen, stores, scratch, session)
@@ -129,9 +137,10 @@ fn obey(
     stores: &mut [u8],
     scratch: &[u8],
     session: Session,
-) -> Step
-    ensures { λ r. ⌜ leaves r (now (screen .exit)) (now (stores .exit))
-        ≡ obeyed (meant said (now (scratch .entry))) (desk session (now (screen .entry)) (now (stores .entry))) ⌝ }
+) -> LineStep
+    ensures { λ r. ⌜ reactionOf r (now (screen .exit)) (now (stores .exit))
+        ≡ afterLine (lineSaid said (now (scratch .entry)))
+        (sessionState session (now (screen .entry)) (now (stores .entry))) ⌝ }
 {
     if session.opened {
         return script_calls::obey(said, screen, stores, scratch, session);
@@ -140,13 +149,13 @@ fn obey(
 }
 
 // What a line comes to, printed.
-fn print(out: &mut [u8], at: usize, outcome: Outcome) -> usize
+fn print(out: &mut [u8], at: usize, answer: LineAnswer) -> usize
     requires { ⌜ at ≤ length (now out) ⌝ }
-    ensures { λ r. ⌜ Wrote (now (out .entry)) at (textOf (outcomeOf outcome)) (now (out .exit)) r ⌝ }
+    ensures { λ r. ⌜ Wrote (now (out .entry)) at (outcomeText (outcomeOf answer)) (now (out .exit)) r ⌝ }
 {
-    match outcome {
-        Outcome::Malformed => script_replies::malformed(out, at),
-        Outcome::Taken => at,
-        Outcome::Replied(letter, reply) => script_replies::reply(out, at, letter, reply),
+    match answer {
+        LineAnswer::Malformed => script_replies::malformed(out, at),
+        LineAnswer::Taken => at,
+        LineAnswer::Replied(letter, reply) => script_replies::reply(out, at, letter, reply),
     }
 }

@@ -1,2 +1,2 @@
 -- Laws of the lines after an accepted `o`.
-pub mod CallingLaws
+pub mod CallLaws

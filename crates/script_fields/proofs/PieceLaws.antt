@@ -7,81 +7,91 @@ use native.Mathlib.Numerals.{add-one}
 use native.Mathlib.Omega.{arith}
 use lib.Dec.{ltb, eqb}
 use lib.ListN.{length, getD, take, drop, length-drop, drop-of-length-le}
-use lib.Seq.{drop-cons, drop-length, drop-drop, take-length}
+use lib.Seq.{drop-cons, drop-length, drop-drop, take-length, take-nil}
 use borrow.Author.Tests.{ltb-true, ltb-false, eq-eqb, ne-eqb}
 use Rattle.model.proofs.Decisions.{split}
-use Rattle.script_fields.specs.Fields.{onFirst, pieces, before, linesOf, fieldsOf, field, firstField, lineFeed, comma}
+use Rattle.script_fields.specs.Fields.{onFirst, pieces, bytesBefore, linesOf, fieldsOf, field, firstField, lineFeed, comma}
 
 -- ## The bytes before a separator
 
 -- there are no more of them than bytes
-pub before-le : (s : ℕ) (l : List ℕ) → before s l ≤ length l
-unfolding before
-before-le s [] = omega arith
-before-le s (b ∷ l) = split (eqb b s) (λ e. rw e (omega arith)) (λ e. let h = before-le s l in rw e (omega arith))
+pub bytesBefore-le : (s : ℕ) (l : List ℕ) → bytesBefore s l ≤ length l
+unfolding bytesBefore
+bytesBefore-le s [] = omega arith
+bytesBefore-le s (b ∷ l) = split (eqb b s) (λ e. rw e (omega arith)) (λ e. let h = bytesBefore-le s l in rw e (omega arith))
 
 -- a separator is next
-pub before-here : (s i : ℕ) (l : List ℕ) → i < length l → getD l i 0 ≡ s → before s (drop i l) ≡ 0
-unfolding before
-before-here s i l h e = rw (drop-cons l i 0 h, eq-eqb (getD l i 0) s e)
+pub bytesBefore-here : (s i : ℕ) (l : List ℕ) → i < length l → getD l i 0 ≡ s → bytesBefore s (drop i l) ≡ 0
+unfolding bytesBefore
+bytesBefore-here s i l h e = rw (drop-cons l i 0 h, eq-eqb (getD l i 0) s e)
 
 -- another byte is next
-pub before-next : (s i : ℕ) (l : List ℕ) → i < length l → (getD l i 0 ≡ s → ⊥) → before s (drop i l) ≡ suc (before s (drop (i + 1) l))
-unfolding before
-before-next s i l h e = rw (add-one, drop-cons l i 0 h, ne-eqb (getD l i 0) s e)
+pub bytesBefore-next : (s i : ℕ) (l : List ℕ) → i < length l → (getD l i 0 ≡ s → ⊥) → bytesBefore s (drop i l) ≡ suc (bytesBefore s (drop (i + 1) l))
+unfolding bytesBefore
+bytesBefore-next s i l h e = rw (add-one, drop-cons l i 0 h, ne-eqb (getD l i 0) s e)
 
 -- no byte is next
-pub before-end : (s i : ℕ) (l : List ℕ) → i ≡ length l → before s (drop i l) ≡ 0
-unfolding before
-before-end s i l h = rw (h, drop-length)
+pub bytesBefore-end : (s i : ℕ) (l : List ℕ) → i ≡ length l → bytesBefore s (drop i l) ≡ 0
+unfolding bytesBefore
+bytesBefore-end s i l h = rw (h, drop-length)
+
+-- there is a separator, or every byte stands before it
+found-or-none : {P : Type 0} (s : ℕ) (l : List ℕ) → (bytesBefore s l < length l → P) → (bytesBefore s l ≡ length l → P) → P
+found-or-none s l found none =
+    split
+    (ltb (bytesBefore s l) (length l))
+    (λ e. found (ltb-true (bytesBefore s l) (length l) e))
+    (λ e. none (le-antisymm (bytesBefore-le s l) (ltb-false (bytesBefore s l) (length l) e)))
 
 -- ## The first piece, and those after it
 
 -- where there is a separator
 pub pieces-found :
     (s : ℕ) (end : List (List ℕ)) (l : List ℕ) →
-    before s l < length l →
-    pieces s end l ≡ take (before s l) l ∷ pieces s end (drop (suc (before s l)) l)
-unfolding pieces before onFirst
+    bytesBefore s l < length l →
+    pieces s end l ≡ take (bytesBefore s l) l ∷ pieces s end (drop (suc (bytesBefore s l)) l)
+unfolding pieces bytesBefore onFirst
 pieces-found s end [] h = absurd (omega arith)
 pieces-found s end (b ∷ l) h =
     split
     (eqb b s)
     (λ e. rw e)
-    (λ e. let g : before s l < length l = (let k = rw e at h in omega arith) in rw e (ap (onFirst b) (pieces-found s end l g)))
+    (λ e. let g : bytesBefore s l < length l = (let k = rw e at h in omega arith) in rw e (ap (onFirst b) (pieces-found s end l g)))
 
 -- where there is none
 pieces-last :
     (s : ℕ) (end : List (List ℕ)) (l : List ℕ) →
     ((b : ℕ) → onFirst b end ≡ (b ∷ []) ∷ []) →
     0 < length l →
-    before s l ≡ length l →
+    bytesBefore s l ≡ length l →
     pieces s end l ≡ l ∷ []
-unfolding pieces before onFirst
+unfolding pieces bytesBefore onFirst
 pieces-last s end [] one some h = absurd (omega arith)
 pieces-last s end (b ∷ []) one some h = split (eqb b s) (λ e. absurd (let k = rw e at h in omega arith)) (λ e. rw e (one b))
 pieces-last s end (b ∷ c ∷ l) one some h =
     split
     (eqb b s)
     (λ e. absurd (let k = rw e at h in omega arith))
-    (λ e. let g : before s (c ∷ l) ≡ length (c ∷ l) = (let k = rw e at h in omega arith) in rw e (ap (onFirst b) (pieces-last s end (c ∷ l) one (omega arith) g)))
+    (λ e.
+    let g : bytesBefore s (c ∷ l) ≡ length (c ∷ l) = (let k = rw e at h in omega arith) in
+    rw e (ap (onFirst b) (pieces-last s end (c ∷ l) one (omega arith) g)))
 
 -- ## Lines
 
 -- the last line, which no line feed ends
-lines-last : (l : List ℕ) → 0 < length l → before lineFeed l ≡ length l → linesOf l ≡ take (before lineFeed l) l ∷ linesOf (drop (suc (before lineFeed l)) l)
+lines-last :
+    (l : List ℕ) →
+    0 < length l →
+    bytesBefore lineFeed l ≡ length l →
+    linesOf l ≡ take (bytesBefore lineFeed l) l ∷ linesOf (drop (suc (bytesBefore lineFeed l)) l)
 unfolding pieces onFirst
 lines-last l some h =
     let past : drop (suc (length l)) l ≡ [] = drop-of-length-le l {i = suc (length l)} (omega arith) in
     pieces-last lineFeed [] l (λ b. refl) some h ∙ sym (rw (h, take-length, past))
 
 -- the next line of a text that is not empty, and those after it, in either case
-pub linesOf-next : (l : List ℕ) → 0 < length l → linesOf l ≡ take (before lineFeed l) l ∷ linesOf (drop (suc (before lineFeed l)) l)
-linesOf-next l some =
-    split
-    (ltb (before lineFeed l) (length l))
-    (λ e. pieces-found lineFeed [] l (ltb-true (before lineFeed l) (length l) e))
-    (λ e. lines-last l some (le-antisymm (before-le lineFeed l) (ltb-false (before lineFeed l) (length l) e)))
+pub linesOf-next : (l : List ℕ) → 0 < length l → linesOf l ≡ take (bytesBefore lineFeed l) l ∷ linesOf (drop (suc (bytesBefore lineFeed l)) l)
+linesOf-next l some = found-or-none lineFeed l (pieces-found lineFeed [] l) (lines-last l some)
 
 -- an empty text has no lines
 pub linesOf-none : (l : List ℕ) → length l ≡ 0 → linesOf l ≡ []
@@ -92,7 +102,7 @@ linesOf-none (b ∷ l) h = absurd (omega arith)
 -- ## Fields
 
 -- a line without a comma is one field
-fields-last : (l : List ℕ) → before comma l ≡ length l → fieldsOf l ≡ l ∷ []
+fields-last : (l : List ℕ) → bytesBefore comma l ≡ length l → fieldsOf l ≡ l ∷ []
 unfolding pieces onFirst
 fields-last [] h = refl
 fields-last (b ∷ l) h = pieces-last comma ([] ∷ []) (b ∷ l) (λ c. refl) (omega arith) h
@@ -100,41 +110,30 @@ fields-last (b ∷ l) h = pieces-last comma ([] ∷ []) (b ∷ l) (λ c. refl) (
 -- the first field is what stands before the first comma
 pub field-first : (l : List ℕ) → firstField l ≡ field (fieldsOf l) 0
 field-first l =
-    split
-    (ltb (before comma l) (length l))
-    (λ e. rw (pieces-found comma ([] ∷ []) l (ltb-true (before comma l) (length l) e)))
-    (λ e. let g = le-antisymm (before-le comma l) (ltb-false (before comma l) (length l) e) in rw (fields-last l g, g, take-length))
+    found-or-none comma l (λ h. rw (pieces-found comma ([] ∷ []) l h)) (λ h. rw (fields-last l h, h, take-length))
 
--- the fields after the first are those of what stands after the first comma
-pub field-next :
-    (l : List ℕ) (from end left : ℕ) →
-    end ≡ from + before comma (drop from l) →
-    end < length l →
-    0 < left →
-    field (fieldsOf (drop from l)) left ≡ field (fieldsOf (drop (end + 1) l)) (left - 1)
-field-next l from end zero e h some = absurd (omega arith)
-field-next l from end (suc left) e h some =
-    let found : before comma (drop from l) < length (drop from l) = rw length-drop (omega arith) in
-    let next : from + suc (before comma (drop from l)) ≡ end + 1 = omega arith in
-    let one : suc left - 1 ≡ left = omega arith in
-    rw (pieces-found comma ([] ∷ []) (drop from l) found, drop-drop, next, one)
+module _ (l : List ℕ) (from end : ℕ) (found : end ≡ from + bytesBefore comma (drop from l)) where
+  -- the bytes up to the next comma are the first field of what is left
+  pub field-here : take (end - from) (drop from l) ≡ field (fieldsOf (drop from l)) 0
+  field-here =
+      let n : end - from ≡ bytesBefore comma (drop from l) = omega arith in
+      rw n (field-first (drop from l))
 
--- there is none after the first where there is no comma
-pub field-past :
-    (l : List ℕ) (from end left : ℕ) →
-    end ≡ from + before comma (drop from l) →
-    end ≡ length l →
-    0 < left →
-    firstField (drop end l) ≡ field (fieldsOf (drop from l)) left
-unfolding before
-field-past l from end zero e h some = absurd (omega arith)
-field-past l from end (suc left) e h some =
-    let whole : before comma (drop from l) ≡ length (drop from l) = rw length-drop (omega arith) in
-    rw (fields-last (drop from l) whole, h, drop-length)
+  -- the fields after it are those of what stands after the comma
+  pub field-next : (left : ℕ) → end < length l → 0 < left → field (fieldsOf (drop from l)) left ≡ field (fieldsOf (drop (end + 1) l)) (left - 1)
+  field-next zero h some = absurd (omega arith)
+  field-next (suc left) h some =
+      let inside : bytesBefore comma (drop from l) < length (drop from l) = rw length-drop (omega arith) in
+      let next : from + suc (bytesBefore comma (drop from l)) ≡ end + 1 = omega arith in
+      let one : suc left - 1 ≡ left = omega arith in
+      rw (pieces-found comma ([] ∷ []) (drop from l) inside, drop-drop, next, one)
 
--- the bytes up to the next comma
-pub field-slice : (l : List ℕ) (from end : ℕ) → end ≡ from + before comma (drop from l) → take (end - from) (drop from l) ≡ firstField (drop from l)
-field-slice l from end e = let n : end - from ≡ before comma (drop from l) = omega arith in rw n
+  -- there is none after it where there is no comma
+  pub field-past : (left : ℕ) → end ≡ length l → 0 < left → take (end - end) (drop end l) ≡ field (fieldsOf (drop from l)) left
+  field-past zero h some = absurd (omega arith)
+  field-past (suc left) h some =
+      let whole : bytesBefore comma (drop from l) ≡ length (drop from l) = rw length-drop (omega arith) in
+      rw (fields-last (drop from l) whole, h, drop-length, take-nil)
 
 -- ## The number of fields
 

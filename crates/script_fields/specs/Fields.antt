@@ -1,14 +1,16 @@
 -- A script's lines and their fields, and the bytes and numbers that fields spell (01, "The script program").
-use Prim.Native.Nat.{ℕ, suc, _+_, _*_}
-use mathlib.Core.Bool.{cond, _||_}
+use Prim.Native.Nat.{ℕ, suc, _-_, _≤_}
+use mathlib.Core.Path.{_≡_}
+use mathlib.Core.Bool.{cond}
 use mathlib.Core.List.{List, [], _∷_}
 use mathlib.Core.Option.{Option, none, some}
-use lib.Dec.{ltb, eqb}
+use lib.Dec.{eqb}
 use lib.ListN.{length, getD, take, drop}
 use Rattle.script_fields.specs.declared.Number.{Number}
 use Rattle.script_fields.specs.declared.Number.the-variants.{Good, Bad}
 use Rattle.script_fields.specs.declared.Values.{Values}
-use Rattle.script_fields.specs.Numbers.{digitOf, spelledNumber}
+use Rattle.script_fields.specs.declared.FieldRange.{FieldRange}
+use Rattle.script_fields.specs.Numbers.{hexBase, spelledNumber}
 
 -- ## A text cut at a separator
 
@@ -23,9 +25,9 @@ pieces separator end [] = end
 pieces separator end (b ∷ l) = cond (eqb b separator) ([] ∷ pieces separator end l) (onFirst b (pieces separator end l))
 
 -- how many bytes stand before the first separator
-unfoldable pub before : ℕ → List ℕ → ℕ
-before separator [] = 0
-before separator (b ∷ l) = cond (eqb b separator) 0 (suc (before separator l))
+unfoldable pub bytesBefore : ℕ → List ℕ → ℕ
+bytesBefore separator [] = 0
+bytesBefore separator (b ∷ l) = cond (eqb b separator) 0 (suc (bytesBefore separator l))
 
 abbrev pub lineFeed : ℕ
 lineFeed = 10
@@ -47,32 +49,31 @@ field fields k = getD fields k []
 
 -- the first field of what is left of a line
 abbrev pub firstField : List ℕ → List ℕ
-firstField l = take (before comma l) l
+firstField l = take (bytesBefore comma l) l
 
--- ## Bytes
+-- ## Limits
 
--- the byte of two digits; 256 where either is no hex digit
-abbrev pub byteOf : ℕ → ℕ → ℕ
-byteOf high low = cond (ltb 15 high || ltb 15 low) 256 (16 * high + low)
+-- "Limits: script 8,192 bytes"
+abbrev pub mostScript : ℕ
+mostScript = 8192
 
--- a byte before others; none if it is no byte
-abbrev pub withByte : ℕ → Option (List ℕ) → Option (List ℕ)
-withByte b none = none
-withByte b (some bytes) = cond (ltb 255 b) none (some (b ∷ bytes))
+-- no field of a script spells more bytes, of two digits each
+abbrev pub mostBytes : ℕ
+mostBytes = 4096
 
--- the bytes that a field spells, two hex digits each; none for any other text
-unfoldable pub spelledBytes : List ℕ → Option (List ℕ)
-spelledBytes [] = some []
-spelledBytes (high ∷ []) = none
-spelledBytes (high ∷ low ∷ l) = withByte (byteOf (digitOf high) (digitOf low)) (spelledBytes l)
-
--- ## Numbers
+-- ## Numbers and bytes
 
 -- a number before others; none if it is bad
 abbrev pub withNumber : Number → Option (List ℕ) → Option (List ℕ)
 withNumber Bad r = none
 withNumber (Good n) none = none
 withNumber (Good n) (some ns) = some (n ∷ ns)
+
+-- the bytes that a field spells, two hex digits each; none for any other text
+unfoldable pub spelledBytes : List ℕ → Option (List ℕ)
+spelledBytes [] = some []
+spelledBytes (high ∷ []) = none
+spelledBytes (high ∷ low ∷ l) = withNumber (spelledNumber hexBase (high ∷ low ∷ [])) (spelledBytes l)
 
 -- the numbers that the first fields spell, each in its base; none if one of them spells none
 unfoldable pub numbersOf : List ℕ → List (List ℕ) → Option (List ℕ)
@@ -86,11 +87,17 @@ lineNumbers n bases fields = cond (eqb (length fields) (suc n)) (numbersOf bases
 
 -- ## The same as the code holds it
 
--- what a field of bytes gives: how many there are, at the start of a buffer
-abbrev pub held : Number → List ℕ → Option (List ℕ)
-held Bad buffer = none
-held (Good n) buffer = some (take n buffer)
+-- where field k stands in a line
+pub record FieldAt (line : List ℕ) (k : ℕ) (r : FieldRange) : Type 0 where
+  pub ordered : r .from ≤ r .end
+  pub inside : r .end ≤ length line
+  pub bytes : take (r .end - r .from) (drop (r .from) line) ≡ field (fieldsOf line) k
+
+-- the bytes of a field: how many there are, at the start of a buffer
+abbrev pub bufferedBytes : Number → List ℕ → Option (List ℕ)
+bufferedBytes Bad buffer = none
+bufferedBytes (Good n) buffer = some (take n buffer)
 
 -- the numbers of a line: so many of its values
-abbrev pub listed : Values → ℕ → Option (List ℕ)
-listed n count = cond (n .bad) none (some (take count (n .values)))
+abbrev pub firstValues : Values → ℕ → Option (List ℕ)
+firstValues n count = cond (n .bad) none (some (take count (n .values)))

@@ -1,15 +1,31 @@
 // A script's text: the end of a line, a line's fields, and the numbers and bytes they spell.
-ghost use Prim.Native.Nat.{_≤_, _<_, suc, _+_};
+ghost use Prim.Native.Nat.{_≤_, suc, _+_};
 ghost use lib.ListN.{length, take, drop};
 ghost use mathlib.Core.Path.{_≡_};
 ghost use Rattle.script_fields.specs.Numbers.{digitOf, longer, spelledNumber};
-ghost use Rattle.script_fields.specs.Fields.{before, fieldsOf, field, firstField, byteOf, spelledBytes, held, lineNumbers, listed, lineFeed, comma};
+ghost use Rattle.script_fields.specs.Fields.{bytesBefore, fieldsOf, field, spelledBytes, bufferedBytes};
+ghost use Rattle.script_fields.specs.Fields.{lineNumbers, firstValues, FieldAt, lineFeed, comma};
+ghost use Rattle.script_fields.specs.Fields.{mostScript, mostBytes};
 
 // The line feed that ends a line.
 pub const LINE_FEED: u8 = 10;
 
 // What stands between two fields.
 pub const COMMA: u8 = 44;
+
+// The longest script.
+pub const MOST_SCRIPT: usize = 8192;
+
+// The most bytes that a field of a script spells, of two digits each.
+pub const MOST_BYTES: usize = MOST_SCRIPT / 2;
+
+// The two bases of numbers.
+pub const DECIMAL: u32 = 10;
+
+pub const HEX: u32 = 16;
+
+// A byte that is no digit has this value, which no digit has.
+const NO_DIGIT: u8 = 16;
 
 // A number of at most 32 bits, or a field that spells none.
 pub enum Number {
@@ -23,11 +39,17 @@ pub struct Values {
     pub values: [u32; 5],
 }
 
+// Where a field stands in its line: its first byte, and the place after its last.
+struct FieldRange {
+    from: usize,
+    end: usize,
+}
+
 // The first place from `from` on where the byte stands, or the length of the text where it is nowhere.
 fn find(text: &[u8], from: usize, byte: u8) -> usize
     requires { ⌜ from ≤ length (now text) ⌝ }
-    ensures { λ r. ⌜ (from ≤ r) × (r ≤ length (now (text .entry))) ⌝ }
-    ensures { λ r. ⌜ r ≡ from + before byte (drop from (now (text .entry))) ⌝ }
+    ensures within { λ r. ⌜ (from ≤ r) × (r ≤ length (now (text .entry))) ⌝ }
+    ensures first { λ r. ⌜ r ≡ from + bytesBefore byte (drop from (now (text .entry))) ⌝ }
 {
     let mut i = from;
     while i < text.len() {
@@ -42,10 +64,18 @@ fn find(text: &[u8], from: usize, byte: u8) -> usize
 // The end of the line that begins at `from`: its line feed, or the end of the script.
 pub fn line_end(script: &[u8], from: usize) -> usize
     requires { ⌜ from ≤ length (now script) ⌝ }
-    ensures { λ r. ⌜ (from ≤ r) × (r ≤ length (now (script .entry))) ⌝ }
-    ensures { λ r. ⌜ r ≡ from + before lineFeed (drop from (now (script .entry))) ⌝ }
+    ensures within { λ r. ⌜ (from ≤ r) × (r ≤ length (now (script .entry))) ⌝ }
+    ensures first { λ r. ⌜ r ≡ from + bytesBefore lineFeed (drop from (now (script .entry))) ⌝ }
 {
     find(script, from, LINE_FEED)
+}
+
+// The end of a line's first field.
+pub fn first_end(line: &[u8]) -> usize
+    ensures within { λ r. ⌜ r ≤ length (now (line .entry)) ⌝ }
+    ensures first { λ r. ⌜ r ≡ bytesBefore comma (now (line .entry)) ⌝ }
+{
+    find(line, 0, COMMA)
 }
 
 // How many commas a line has: one fewer than its fields.
@@ -63,55 +93,38 @@ fn commas(line: &[u8]) -> usize
     n
 }
 
-// Where field k of a line begins: after its k-th comma. The line's end if it has fewer.
-fn field_start(line: &[u8], k: usize) -> usize
-    ensures { λ r. ⌜ r ≤ length (now (line .entry)) ⌝ }
-    ensures { λ r. ⌜ firstField (drop r (now (line .entry))) ≡ field (fieldsOf (now (line .entry))) k ⌝ }
+// Where field k of a line stands: after its k-th comma. Empty, at the line's end, if it has fewer.
+fn field_at(line: &[u8], k: usize) -> FieldRange
+    ensures { λ r. ⌜ FieldAt (now (line .entry)) k r ⌝ }
 {
     let mut from = 0;
     let mut left = k;
     while 0 < left {
         let end = find(line, from, COMMA);
         if end == line.len() {
-            return end;
+            return FieldRange { from: end, end };
         }
         from = end + 1;
         left -= 1;
     }
-    from
+    let end = find(line, from, COMMA);
+    FieldRange { from, end }
 }
 
-// The end of a line's first field.
-pub fn first_end(line: &[u8]) -> usize
-    ensures { λ r. ⌜ r ≤ length (now (line .entry)) ⌝ }
-    ensures { λ r. ⌜ r ≡ before comma (now (line .entry)) ⌝ }
-{
-    find(line, 0, COMMA)
-}
-
-// The value of a digit, in either case, or 16 for a byte that is none. 58, 71 and 103 follow `9`, `F` and `f`.
+// The value of a digit, in either case.
 fn digit(byte: u8) -> u8
     ensures { λ r. ⌜ r ≡ digitOf byte ⌝ }
 {
-    if byte < b'0' {
-        return 16;
-    }
-    if byte < 58 {
+    if (b'0' <= byte) & (byte <= b'9') {
         return byte - b'0';
     }
-    if byte < b'A' {
-        return 16;
+    if (b'A' <= byte) & (byte <= b'F') {
+        return byte - b'A' + 10;
     }
-    if byte < 71 {
-        return byte - 55;
+    if (b'a' <= byte) & (byte <= b'f') {
+        return byte - b'a' + 10;
     }
-    if byte < b'a' {
-        return 16;
-    }
-    if byte < 103 {
-        return byte - 87;
-    }
-    16
+    NO_DIGIT
 }
 
 // A number with one digit more, unless that is none of the base or the number passes 32 bits.
@@ -153,15 +166,17 @@ fn whole(field: &[u8], base: u32) -> Number
 fn spelled(line: &[u8], k: usize, base: u32) -> Number
     ensures { λ r. ⌜ r ≡ spelledNumber base (field (fieldsOf (now (line .entry))) k) ⌝ }
 {
-    let from = field_start(line, k);
-    let end = find(line, from, COMMA);
+    let range = field_at(line, k);
+    let from = range.from;
+    let end = range.end;
     whole(&line[from..end], base)
 }
 
-// The first numbers, `count` of them, each in its base, of a line that is to have so many fields after its letter.
+// The first numbers, `count` of them, each in its base, of a line that is to have so many fields after its
+// letter.
 pub fn numbers(line: &[u8], fields: usize, bases: [u32; 5], count: usize) -> Values
     requires { ⌜ count ≤ 5 ⌝ }
-    ensures { λ r. ⌜ listed r count ≡ lineNumbers fields (take count bases) (fieldsOf (now (line .entry))) ⌝ }
+    ensures { λ r. ⌜ firstValues r count ≡ lineNumbers fields (take count bases) (fieldsOf (now (line .entry))) ⌝ }
 {
     let mut values = [0; 5];
     if commas(line) != fields {
@@ -178,27 +193,12 @@ pub fn numbers(line: &[u8], fields: usize, bases: [u32; 5], count: usize) -> Val
     Values { bad: false, values }
 }
 
-// A byte of two hex digits, or a number that is none: 256.
-fn pair(high: u8, low: u8) -> u32
-    ensures { λ r. ⌜ r ≡ byteOf (digitOf high) (digitOf low) ⌝ }
-{
-    let h = digit(high) as u32;
-    let l = digit(low) as u32;
-    if h > 15 {
-        return 256;
-    }
-    if l > 15 {
-        return 256;
-    }
-    16 * h + l
-}
-
-// Puts the bytes that a field spells, two hex digits each, at the start of the buffer, and answers how many there are: none from an empty
-// field. Bad with an odd number of digits, or with a byte that is no digit.
+// Puts the bytes that a field spells, two hex digits each, at the start of the buffer, and answers how many
+// there are: none from an empty field. Bad with an odd number of digits, or with a byte that is no digit.
 fn spelled_bytes(field: &[u8], buffer: &mut [u8]) -> Number
-    requires { ⌜ length (now field) ≤ 8192 ⌝ }
-    requires { ⌜ 4096 ≤ length (now buffer) ⌝ }
-    ensures { λ r. ⌜ held r (now (buffer .exit)) ≡ spelledBytes (now (field .entry)) ⌝ }
+    requires { ⌜ length (now field) ≤ mostScript ⌝ }
+    requires { ⌜ mostBytes ≤ length (now buffer) ⌝ }
+    ensures { λ r. ⌜ bufferedBytes r (now (buffer .exit)) ≡ spelledBytes (now (field .entry)) ⌝ }
 {
     if field.len() % 2 == 1 {
         return Number::Bad;
@@ -206,10 +206,11 @@ fn spelled_bytes(field: &[u8], buffer: &mut [u8]) -> Number
     let n = field.len() / 2;
     let mut i = 0;
     while i < n {
-        let byte = pair(field[2 * i], field[2 * i + 1]);
-        if byte > 255 {
+        let from = 2 * i;
+        let end = from + 2;
+        let Number::Good(byte) = whole(&field[from..end], HEX) else {
             return Number::Bad;
-        }
+        };
         buffer[i] = byte as u8;
         i += 1;
     }
@@ -218,11 +219,13 @@ fn spelled_bytes(field: &[u8], buffer: &mut [u8]) -> Number
 
 // The bytes of field k, put at the start of the buffer; answers how many there are.
 pub fn bytes(line: &[u8], k: usize, buffer: &mut [u8]) -> Number
-    requires { ⌜ length (now line) ≤ 8192 ⌝ }
-    requires { ⌜ 4096 ≤ length (now buffer) ⌝ }
-    ensures { λ r. ⌜ held r (now (buffer .exit)) ≡ spelledBytes (field (fieldsOf (now (line .entry))) k) ⌝ }
+    requires { ⌜ length (now line) ≤ mostScript ⌝ }
+    requires { ⌜ mostBytes ≤ length (now buffer) ⌝ }
+    ensures { λ r. ⌜ bufferedBytes r (now (buffer .exit))
+        ≡ spelledBytes (field (fieldsOf (now (line .entry))) k) ⌝ }
 {
-    let from = field_start(line, k);
-    let end = find(line, from, COMMA);
+    let range = field_at(line, k);
+    let from = range.from;
+    let end = range.end;
     spelled_bytes(&line[from..end], buffer)
 }

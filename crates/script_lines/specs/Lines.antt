@@ -1,16 +1,21 @@
 -- What a line of a script says (01, "The script program").
-use Prim.Native.Nat.{ℕ}
-use mathlib.Core.Bool.{cond}
+use Prim.Native.Nat.{ℕ, _≤_}
+use mathlib.Core.Path.{_≡_}
+use mathlib.Core.Bool.{Bool, true, cond, not, _||_}
 use mathlib.Core.List.{List, [], _∷_}
 use mathlib.Core.Option.{Option, none, some}
 use lib.Dec.{eqb}
-use lib.ListN.{getD, take}
+use lib.ListN.{length, getD, take}
 use Rattle.model.specs.declared.Geometry.{Geometry}
 use Rattle.model.specs.Calls.{Request, on}
 use Rattle.model.specs.Calls as calls
+use Rattle.script_fields.specs.Numbers.{decimalBase, hexBase}
 use Rattle.script_fields.specs.Fields.{fieldsOf, field, spelledBytes, lineNumbers}
 use Rattle.script_lines.specs.declared.Language.{Language}
 use Rattle.script_lines.specs.declared.Language.the-variants as language
+use Rattle.script_lines.specs.declared.Reading.{Reading}
+use Rattle.script_lines.specs.declared.Call as declared-call
+use Rattle.script_lines.specs.declared.Call.the-variants as call
 use Rattle.script_lines.specs.declared.Line as declared
 use Rattle.script_lines.specs.declared.Line.the-variants as written
 
@@ -22,93 +27,188 @@ pub data Line : Type 0 where
   asking : ℕ → Request → Line
   malformed : Line
 
--- a line of which some fields are to spell numbers, or one bytes
-abbrev pub given : Option (List ℕ) → (List ℕ → Line) → Line
-given none f = malformed
-given (some l) f = f l
+-- ## Letters
 
--- a line of n fields after its letter, the first of them numbers in these bases; `v 0` is the first number
-abbrev pub reading : ℕ → List ℕ → List (List ℕ) → ((ℕ → ℕ) → Line) → Line
-reading n bases fields f = given (lineNumbers n bases fields) (λ ns. f (λ k. getD ns k 0))
+-- `s`
+abbrev pub letterScreen : ℕ
+letterScreen = 115
+
+-- `p`
+abbrev pub letterPane : ℕ
+letterPane = 112
+
+-- `o`
+abbrev pub letterOpen : ℕ
+letterOpen = 111
+
+-- `w`
+abbrev pub letterPut : ℕ
+letterPut = 119
+
+-- `g`
+abbrev pub letterStart : ℕ
+letterStart = 103
+
+-- `r`
+abbrev pub letterRun : ℕ
+letterRun = 114
+
+-- `l`
+abbrev pub letterLook : ℕ
+letterLook = 108
+
+-- `x`
+abbrev pub letterPixel : ℕ
+letterPixel = 120
+
+-- `k`, in the language of `calls` alone
+abbrev pub letterPeek : ℕ
+letterPeek = 107
+
+-- `c`, in the language of `calls` alone
+abbrev pub letterClear : ℕ
+letterClear = 99
+
+-- whether a language has a letter, if either has it
+abbrev pub has : Language → ℕ → Bool
+has language.Panes c = not (eqb c letterPeek || eqb c letterClear)
+has language.Calls c = true
+
+-- ## Forms
+
+-- The form of a line: how many fields follow its letter, the bases of the numbers that are the first of them,
+-- and what the line says, by these numbers (`v 0` is the first) and its fields.
+pub record Form : Type 0 where
+  pub fields : ℕ
+  pub bases : List ℕ
+  pub says : (ℕ → ℕ) → List (List ℕ) → Line
+
+abbrev pub form : ℕ → List ℕ → ((ℕ → ℕ) → List (List ℕ) → Line) → Form
+form n bases says = record { fields = n; bases = bases; says = says }
+
+-- a line of which some fields are to spell numbers, or one bytes
+abbrev pub spelledLine : Option (List ℕ) → (List ℕ → Line) → Line
+spelledLine none f = malformed
+spelledLine (some l) f = f l
+
+-- the bases of an address on a pane
+abbrev pub paneAndAddress : List ℕ
+paneAndAddress = decimalBase ∷ hexBase ∷ []
 
 -- "s,width,height,depth"
-unfoldable pub screenLine : List (List ℕ) → Line
-screenLine fs = reading 3 (10 ∷ 10 ∷ 10 ∷ []) fs (λ v. sizing (record { width = v 0; height = v 1; depth = v 2 }))
+abbrev pub screenForm : Form
+screenForm =
+    form 3 (decimalBase ∷ decimalBase ∷ decimalBase ∷ [])
+    (λ v fs. sizing (record { width = v 0; height = v 1; depth = v 2 }))
 
 -- "p,left,top,width,height,store length"
-unfoldable pub paneLine : List (List ℕ) → Line
-paneLine fs = reading 5 (10 ∷ 10 ∷ 10 ∷ 10 ∷ 10 ∷ []) fs (λ v. adding (v 0) (v 1) (v 2) (v 3) (v 4))
+abbrev pub paneForm : Form
+paneForm =
+    form 5 (decimalBase ∷ decimalBase ∷ decimalBase ∷ decimalBase ∷ decimalBase ∷ [])
+    (λ v fs. adding (v 0) (v 1) (v 2) (v 3) (v 4))
 
 -- "o set-up"
-unfoldable pub openLine : List (List ℕ) → Line
-openLine fs = reading 0 [] fs (λ v. opening)
+abbrev pub openForm : Form
+openForm = form 0 [] (λ v fs. opening)
 
 -- "w put": "Lines from w to x give the pane first, then the call's values", with "hex addresses and bytes"
-unfoldable pub putLine : List (List ℕ) → Line
-putLine fs =
-    reading 3 (10 ∷ 16 ∷ []) fs (λ v. given (spelledBytes (field fs 3)) (λ bytes. asking 119 (on (v 0) (calls.put (v 1) bytes))))
+abbrev pub putForm : Form
+putForm =
+    form 3 paneAndAddress
+    (λ v fs. spelledLine (spelledBytes (field fs 3)) (λ bytes. asking letterPut (on (v 0) (calls.put (v 1) bytes))))
 
 -- "g start", with a hex address
-unfoldable pub startLine : List (List ℕ) → Line
-startLine fs = reading 2 (10 ∷ 16 ∷ []) fs (λ v. asking 103 (on (v 0) (calls.start (v 1))))
+abbrev pub startForm : Form
+startForm = form 2 paneAndAddress (λ v fs. asking letterStart (on (v 0) (calls.start (v 1))))
 
 -- "r run"
-unfoldable pub runLine : List (List ℕ) → Line
-runLine fs = reading 2 (10 ∷ 10 ∷ []) fs (λ v. asking 114 (on (v 0) (calls.run (v 1))))
+abbrev pub runForm : Form
+runForm = form 2 (decimalBase ∷ decimalBase ∷ []) (λ v fs. asking letterRun (on (v 0) (calls.run (v 1))))
 
 -- "l look"
-unfoldable pub lookLine : List (List ℕ) → Line
-lookLine fs = reading 1 (10 ∷ []) fs (λ v. asking 108 (on (v 0) calls.look))
+abbrev pub lookForm : Form
+lookForm = form 1 (decimalBase ∷ []) (λ v fs. asking letterLook (on (v 0) calls.look))
 
 -- "x pixel"
-unfoldable pub pixelLine : List (List ℕ) → Line
-pixelLine fs = reading 3 (10 ∷ 10 ∷ 10 ∷ []) fs (λ v. asking 120 (on (v 0) (calls.pixel (v 1) (v 2))))
+abbrev pub pixelForm : Form
+pixelForm =
+    form 3 (decimalBase ∷ decimalBase ∷ decimalBase ∷ [])
+    (λ v fs. asking letterPixel (on (v 0) (calls.pixel (v 1) (v 2))))
 
 -- peek, in the language of `calls`: `k,pane,address`, with a hex address
-unfoldable pub peekLine : List (List ℕ) → Line
-peekLine fs = reading 2 (10 ∷ 16 ∷ []) fs (λ v. asking 107 (on (v 0) (calls.peek (v 1))))
+abbrev pub peekForm : Form
+peekForm = form 2 paneAndAddress (λ v fs. asking letterPeek (on (v 0) (calls.peek (v 1))))
 
 -- clear, in the language of `calls`: `c,pane`
-unfoldable pub clearLine : List (List ℕ) → Line
-clearLine fs = reading 1 (10 ∷ []) fs (λ v. asking 99 (on (v 0) calls.clear))
+abbrev pub clearForm : Form
+clearForm = form 1 (decimalBase ∷ []) (λ v fs. asking letterClear (on (v 0) calls.clear))
 
--- a line by a letter that `panes` does not have: `calls` has k and c besides
-unfoldable pub byFurtherLetter : Language → ℕ → List (List ℕ) → Line
-byFurtherLetter language.Panes c fs = malformed
-byFurtherLetter language.Calls c fs = cond (eqb c 107) (peekLine fs) (cond (eqb c 99) (clearLine fs) malformed)
+-- the forms, each by its letter
+abbrev pub forms : List (ℕ × Form)
+forms =
+    (letterScreen, screenForm)
+    ∷ (letterPane, paneForm)
+    ∷ (letterOpen, openForm)
+    ∷ (letterPut, putForm)
+    ∷ (letterStart, startForm)
+    ∷ (letterRun, runForm)
+    ∷ (letterLook, lookForm)
+    ∷ (letterPixel, pixelForm)
+    ∷ (letterPeek, peekForm)
+    ∷ (letterClear, clearForm)
+    ∷ []
 
--- a line by its letter: s, p, o, w, g, r, l or x, as bytes
-unfoldable pub byLetter : Language → ℕ → List (List ℕ) → Line
-byLetter language c fs =
-    cond (eqb c 115) (screenLine fs)
-    (cond (eqb c 112) (paneLine fs)
-    (cond (eqb c 111) (openLine fs)
-    (cond (eqb c 119) (putLine fs)
-    (cond (eqb c 103) (startLine fs)
-    (cond (eqb c 114) (runLine fs)
-    (cond (eqb c 108) (lookLine fs)
-    (cond (eqb c 120) (pixelLine fs) (byFurtherLetter language c fs))))))))
+-- the form of a letter in a table; a line with any other letter is malformed
+unfoldable pub formIn : List (ℕ × Form) → ℕ → Form
+formIn [] c = form 0 [] (λ v fs. malformed)
+formIn (f ∷ fs) c = cond (eqb c (f .0)) (f .1) (formIn fs c)
+
+abbrev pub formOf : ℕ → Form
+formOf = formIn forms
+
+-- ## Lines
+
+-- what a form says with a list of numbers
+abbrev pub saying : Form → List ℕ → List (List ℕ) → Line
+saying f numbers fs = f .says (λ k. getD numbers k 0) fs
+
+-- a line of a form
+unfoldable pub lineBy : Form → List (List ℕ) → Line
+lineBy f fs = spelledLine (lineNumbers (f .fields) (f .bases) fs) (λ numbers. saying f numbers fs)
 
 -- its first field is the letter alone
-unfoldable pub lettered : Language → List ℕ → List (List ℕ) → Line
-lettered language [] fs = malformed
-lettered language (c ∷ []) fs = byLetter language c fs
-lettered language (c ∷ d ∷ l) fs = malformed
+unfoldable pub lineByLetter : Language → List ℕ → List (List ℕ) → Line
+lineByLetter language [] fs = malformed
+lineByLetter language (c ∷ []) fs = cond (has language c) (lineBy (formOf c) fs) malformed
+lineByLetter language (c ∷ d ∷ l) fs = malformed
 
 unfoldable pub lineOf : Language → List ℕ → Line
-lineOf language l = lettered language (field (fieldsOf l) 0) (fieldsOf l)
+lineOf language l = lineByLetter language (field (fieldsOf l) 0) (fieldsOf l)
 
 -- ## The same as the code holds it: the bytes of a put stand at the start of a buffer
 
-abbrev pub meant : declared.Line → List ℕ → Line
-meant (written.Screen g) buffer = sizing g
-meant (written.Pane left top w h len) buffer = adding left top w h len
-meant written.Open buffer = opening
-meant (written.Put p a n) buffer = asking 119 (on p (calls.put a (take n buffer)))
-meant (written.Start p a) buffer = asking 103 (on p (calls.start a))
-meant (written.Run p n) buffer = asking 114 (on p (calls.run n))
-meant (written.Look p) buffer = asking 108 (on p calls.look)
-meant (written.Pixel p x y) buffer = asking 120 (on p (calls.pixel x y))
-meant (written.Peek p a) buffer = asking 107 (on p (calls.peek a))
-meant (written.Clear p) buffer = asking 99 (on p calls.clear)
-meant written.Malformed buffer = malformed
+abbrev pub readingBy : ℕ → List ℕ → ℕ → Reading
+readingBy fields bases count = record { fields = fields; bases = bases; count = count }
+
+-- how a line of a form is read
+pub record ReadAs (f : Form) (r : Reading) : Type 0 where
+  pub fields : r .fields ≡ f .fields
+  pub bases : take (r .count) (r .bases) ≡ f .bases
+  pub count : r .count ≡ length (f .bases)
+  pub room : r .count ≤ 5
+
+abbrev pub callSaid : declared-call.Call → List ℕ → calls.Call
+callSaid (call.Put a n) buffer = calls.put a (take n buffer)
+callSaid (call.Start a) buffer = calls.start a
+callSaid (call.Run n) buffer = calls.run n
+callSaid call.Look buffer = calls.look
+callSaid (call.Pixel x y) buffer = calls.pixel x y
+callSaid (call.Peek a) buffer = calls.peek a
+callSaid call.Clear buffer = calls.clear
+
+abbrev pub lineSaid : declared.Line → List ℕ → Line
+lineSaid (written.Screen g) buffer = sizing g
+lineSaid (written.Pane left top w h len) buffer = adding left top w h len
+lineSaid written.Open buffer = opening
+lineSaid (written.Ask letter p c) buffer = asking letter (on p (callSaid c buffer))
+lineSaid written.Malformed buffer = malformed

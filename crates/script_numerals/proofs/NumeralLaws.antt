@@ -8,7 +8,7 @@ use native.Mathlib.Omega.{arith}
 use borrow.Author.Tests.{lt-ltb, le-ltb}
 use Rattle.io.specs.Digits.{glyph, digits, Fewest}
 use Rattle.model.specs.Coordinates.{coord}
-use Rattle.script_numerals.specs.Numerals.{numeral, decimalText, signedText}
+use Rattle.script_numerals.specs.Numerals.{numeral, decimalText, minus, signedText}
 
 -- one digit
 one-digit : (base m n : ℕ) → n < base → numeral base m n ≡ glyph (n % base) ∷ []
@@ -63,7 +63,7 @@ pub coordinate-plus : (p : ℕ) → p < 32768 → signedText (coord p) ≡ decim
 coordinate-plus p h = rw (lt-ltb p 32768 h)
 
 -- a negative one: a minus, and what its pattern lacks of 65536
-pub coordinate-minus : (p : ℕ) → 32768 ≤ p → p < 65536 → signedText (coord p) ≡ 45 ∷ decimalText (65536 - p)
+pub coordinate-minus : (p : ℕ) → 32768 ≤ p → p < 65536 → signedText (coord p) ≡ minus ∷ decimalText (65536 - p)
 coordinate-minus p h l =
     let next : suc (65535 - p) ≡ 65536 - p = omega arith in
     rw (le-ltb p 32768 h, next)

@@ -9,7 +9,8 @@ use lib.ListN.{length, take}
 use Rattle.io.specs.Digits.{glyph}
 use Rattle.script_fields.specs.Fields.{comma}
 
--- a number's digits in a base, the first of them no 0 unless it is the only one; of a number with at most k + 1
+-- a number's digits in a base, the first of them no 0 unless it is the only one; of a number with at most
+-- k + 1 of them
 unfoldable pub numeral : ℕ → ℕ → ℕ → List ℕ
 numeral base zero n = glyph n ∷ []
 numeral base (suc k) n = cond (ltb n base) (glyph n ∷ []) (numeral base k (n / base) ++ (glyph (n % base) ∷ []))
@@ -22,18 +23,23 @@ decimalText n = numeral 10 9 n
 abbrev pub hexText : ℕ → List ℕ
 hexText n = numeral 16 7 n
 
+abbrev pub minus : ℕ
+minus = 45
+
 abbrev pub signedText : ℤ → List ℕ
 signedText (pos n) = decimalText n
-signedText (negsuc n) = 45 ∷ decimalText (suc n)
+signedText (negsuc n) = minus ∷ decimalText (suc n)
 
 -- each value after a comma
-unfoldable pub listed : List (List ℕ) → List ℕ
-listed [] = []
-listed (t ∷ ts) = comma ∷ (t ++ listed ts)
+unfoldable pub commaSeparated : List (List ℕ) → List ℕ
+commaSeparated [] = []
+commaSeparated (t ∷ ts) = comma ∷ (t ++ commaSeparated ts)
 
 -- ## Text written to a buffer
 
--- Text was written after the first `at` bytes of a buffer, which are kept, up to `end`. What found no room is left out.
+-- Text was written after the first `at` bytes of a buffer, which are kept, up to `end`. What found no room is
+-- left out.
 pub record Wrote (first : List ℕ) (at : ℕ) (text : List ℕ) (last : List ℕ) (end : ℕ) : Type 0 where
+  pub kept : length last ≡ length first
   pub fits : end ≤ length first
   pub bytes : take end last ≡ take (length first) (take at first ++ text)

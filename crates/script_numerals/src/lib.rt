@@ -1,12 +1,12 @@
-// Numbers as text: decimal, hex without zeros in front, signed. Each function writes from a place of the buffer on and answers the place after;
-// what the buffer has no room for is left out.
+// Numbers as text: decimal, hex without zeros in front, signed. Each function writes from a place of the
+// buffer on and answers the place after; what the buffer has no room for is left out.
 use script_fields::COMMA;
 ghost use mathlib.Core.List.{[], _∷_};
 ghost use Prim.Native.Nat.{_≤_};
 ghost use lib.ListN.{length};
 ghost use Rattle.model.specs.Words.{digit};
 ghost use Rattle.model.specs.Coordinates.{coord};
-ghost use Rattle.script_numerals.specs.Numerals.{decimalText, hexText, signedText, listed, Wrote};
+ghost use Rattle.script_numerals.specs.Numerals.{decimalText, hexText, signedText, commaSeparated, Wrote};
 
 // Writes one byte.
 pub fn push(out: &mut [u8], at: usize, byte: u8) -> usize
@@ -47,7 +47,7 @@ fn decimal(out: &mut [u8], at: usize, n: u32) -> usize
 // Writes a comma and a decimal number.
 pub fn value(out: &mut [u8], at: usize, n: u32) -> usize
     requires { ⌜ at ≤ length (now out) ⌝ }
-    ensures { λ r. ⌜ Wrote (now (out .entry)) at (listed (decimalText n ∷ [])) (now (out .exit)) r ⌝ }
+    ensures { λ r. ⌜ Wrote (now (out .entry)) at (commaSeparated (decimalText n ∷ [])) (now (out .exit)) r ⌝ }
 {
     let after = push(out, at, COMMA);
     decimal(out, after, n)
@@ -56,7 +56,7 @@ pub fn value(out: &mut [u8], at: usize, n: u32) -> usize
 // Writes a comma and a hex number.
 pub fn pointer(out: &mut [u8], at: usize, n: u32) -> usize
     requires { ⌜ at ≤ length (now out) ⌝ }
-    ensures { λ r. ⌜ Wrote (now (out .entry)) at (listed (hexText n ∷ [])) (now (out .exit)) r ⌝ }
+    ensures { λ r. ⌜ Wrote (now (out .entry)) at (commaSeparated (hexText n ∷ [])) (now (out .exit)) r ⌝ }
 {
     let after = push(out, at, COMMA);
     let mut digits = [0u8; 16];
@@ -67,7 +67,8 @@ pub fn pointer(out: &mut [u8], at: usize, n: u32) -> usize
 // Writes a comma and a coordinate, of which the 16-bit pattern is given.
 pub fn coordinate(out: &mut [u8], at: usize, pattern: u16) -> usize
     requires { ⌜ at ≤ length (now out) ⌝ }
-    ensures { λ r. ⌜ Wrote (now (out .entry)) at (listed (signedText (coord pattern) ∷ [])) (now (out .exit)) r ⌝ }
+    ensures { λ r. ⌜ Wrote (now (out .entry)) at (commaSeparated (signedText (coord pattern) ∷ []))
+        (now (out .exit)) r ⌝ }
 {
     let n = pattern as u32;
     if n < 0x8000 {
@@ -81,10 +82,7 @@ pub fn coordinate(out: &mut [u8], at: usize, pattern: u16) -> usize
 // Writes a comma and a flag, 1 or 0.
 pub fn flag(out: &mut [u8], at: usize, set: bool) -> usize
     requires { ⌜ at ≤ length (now out) ⌝ }
-    ensures { λ r. ⌜ Wrote (now (out .entry)) at (listed (decimalText (digit set) ∷ [])) (now (out .exit)) r ⌝ }
+    ensures { λ r. ⌜ Wrote (now (out .entry)) at (commaSeparated (decimalText (digit set) ∷ [])) (now (out .exit)) r ⌝ }
 {
-    if set {
-        return value(out, at, 1);
-    }
-    value(out, at, 0)
+    value(out, at, set as u32)
 }

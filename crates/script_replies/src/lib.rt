@@ -1,5 +1,5 @@
-// A reply as text: letter, refusal, values; numbers decimal, pointers in lower-case hex. Each function writes from a place of the
-// buffer on and answers the place after; what the buffer has no room for is left out.
+// A reply as text: letter, refusal, values; numbers decimal, pointers in lower-case hex. Each function writes
+// from a place of the buffer on and answers the place after; what the buffer has no room for is left out.
 use model::Progress;
 use model::Ran;
 use model::Reply;
@@ -13,13 +13,16 @@ use script_numerals::value;
 ghost use Prim.Native.Nat.{_≤_};
 ghost use lib.ListN.{length};
 ghost use Rattle.model.specs.Replies.{ranValues, progressValues, viewValues, response};
-ghost use Rattle.script_numerals.specs.Numerals.{listed, Wrote};
-ghost use Rattle.script_replies.specs.Replies.{valueTexts, responseTexts, replyText, malformedText};
+ghost use Rattle.script_numerals.specs.Numerals.{Wrote};
+ghost use Rattle.script_replies.specs.Replies.{valuesText, responseText, replyText, malformedText};
+
+// The most bytes that a reply takes.
+pub const MOST_REPLY: usize = 96;
 
 // The values of run: commands, status, fault.
 fn ran(out: &mut [u8], at: usize, r: Ran) -> usize
     requires { ⌜ at ≤ length (now out) ⌝ }
-    ensures { λ end. ⌜ Wrote (now (out .entry)) at (listed (valueTexts (ranValues r))) (now (out .exit)) end ⌝ }
+    ensures { λ end. ⌜ Wrote (now (out .entry)) at (valuesText (ranValues r)) (now (out .exit)) end ⌝ }
 {
     let commands = value(out, at, r.commands);
     let status = value(out, commands, r.status as u32);
@@ -29,7 +32,7 @@ fn ran(out: &mut [u8], at: usize, r: Ran) -> usize
 // The first values of look: status, fault, pointer.
 fn progress(out: &mut [u8], at: usize, p: Progress) -> usize
     requires { ⌜ at ≤ length (now out) ⌝ }
-    ensures { λ r. ⌜ Wrote (now (out .entry)) at (listed (valueTexts (progressValues p))) (now (out .exit)) r ⌝ }
+    ensures { λ r. ⌜ Wrote (now (out .entry)) at (valuesText (progressValues p)) (now (out .exit)) r ⌝ }
 {
     let status = value(out, at, p.status as u32);
     let fault = value(out, status, p.fault as u32);
@@ -39,7 +42,7 @@ fn progress(out: &mut [u8], at: usize, p: Progress) -> usize
 // The values of look: status, fault, pointer, x, y, pick, trap.
 fn seen(out: &mut [u8], at: usize, view: View) -> usize
     requires { ⌜ at ≤ length (now out) ⌝ }
-    ensures { λ r. ⌜ Wrote (now (out .entry)) at (listed (valueTexts (viewValues view))) (now (out .exit)) r ⌝ }
+    ensures { λ r. ⌜ Wrote (now (out .entry)) at (valuesText (viewValues view)) (now (out .exit)) r ⌝ }
 {
     let p = view.progress;
     let first = progress(out, at, p);
@@ -52,7 +55,7 @@ fn seen(out: &mut [u8], at: usize, view: View) -> usize
 // The refusal's number, or 0 and the values.
 fn values(out: &mut [u8], at: usize, reply: Reply) -> usize
     requires { ⌜ at ≤ length (now out) ⌝ }
-    ensures { λ r. ⌜ Wrote (now (out .entry)) at (listed (responseTexts (response reply))) (now (out .exit)) r ⌝ }
+    ensures { λ r. ⌜ Wrote (now (out .entry)) at (responseText (response reply)) (now (out .exit)) r ⌝ }
 {
     match reply {
         Reply::Refused(number) => value(out, at, number as u32),

@@ -1,2 +1,2 @@
 -- Laws of a session, which the proofs of the lines cite.
-pub mod DeskLaws
+pub mod SessionLaws

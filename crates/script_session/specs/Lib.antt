@@ -1,2 +1,2 @@
 -- What a script has said so far, and what a line does to it.
-pub mod Desk
+pub mod SessionState

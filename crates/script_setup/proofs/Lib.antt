@@ -1,2 +1,2 @@
--- Laws of the lines before an accepted `o`.
-pub mod SettingLaws
+-- Laws of sizes, which the proofs of the lines cite.
+pub mod SizeLaws

@@ -3,68 +3,54 @@ use model::Geometry;
 use model::Reply;
 use model::Row;
 use script_lines::Line;
+use script_lines::OPEN;
+use script_session::LineStep;
+use script_session::MOST_PANES;
+use script_session::MOST_SCREEN;
+use script_session::MOST_STORES;
 use script_session::Session;
-use script_session::Step;
-use script_session::counted;
+use script_session::count_within;
 use script_session::malformed;
 use script_session::replied;
 use script_session::taken;
 ghost use mathlib.Core.Path.{_≡_};
 ghost use mathlib.Core.Bool.{false};
 ghost use mathlib.Core.List.{List};
-ghost use Prim.Native.Nat.{ℕ, _+_, _*_, _≤_, _<_};
+ghost use Prim.Native.Nat.{ℕ, _*_};
 ghost use Rattle.model.specs.Setup.{screenBytes};
 ghost use Rattle.model.specs.Replies.{response};
-ghost use Rattle.script_lines.specs.Lines as line;
-ghost use Rattle.script_session.specs.Desk.{desk, leaves, stepped, withConsole, afterSetUp, obeyed, mostScreen};
-ghost use Rattle.script_lines.specs.Lines.{meant};
-ghost use Rattle.script_session.specs.declared.Outcome.the-variants as outcome;
+ghost use Rattle.script_lines.specs.Lines.{sizing, adding, opening, lineSaid, letterOpen};
+ghost use Rattle.script_session.specs.SessionState.{sessionState, reactionOf, lineStep, withConsole};
+ghost use Rattle.script_session.specs.SessionState.{afterSetUp, afterLine};
+ghost use Rattle.script_session.specs.declared.LineAnswer.the-variants as answer;
+ghost use Rattle.script_setup.specs.Sizes.{SizeAs};
 
-// The largest screen and the largest stores, in bytes.
-const MOST_SCREEN: u64 = 32_768;
-
-const MOST_STORES: u64 = 16_384;
-
-// The most panes.
-const MOST_PANES: usize = 8;
-
-// The bytes of rows of so many words, or a number above the limit if they pass it.
-fn rows_bytes(words: u64, height: u64) -> u64
-    ensures { λ r. ⌜ (r ≤ mostScreen → r ≡ 2 * (height * words)) × (mostScreen < r → mostScreen < 2 * (height * words)) ⌝ }
+// The bytes of so many rows of so many words each, or a number above the limit if they pass it.
+fn rows_bytes(height: u32, words: usize) -> usize
+    ensures { λ r. ⌜ SizeAs (2 * (height * words)) r ⌝ }
 {
-    if words == 0 {
-        return 0;
-    }
-    if height == 0 {
-        return 0;
-    }
     if words > MOST_SCREEN {
-        return MOST_SCREEN + 1;
+        return 2 * ((height as usize) * (MOST_SCREEN + 1));
     }
-    if height > MOST_SCREEN {
-        return MOST_SCREEN + 1;
-    }
-    2 * (words * height)
+    2 * ((height as usize) * words)
 }
 
 // The bytes that the screen's rows take, or a number above the limit if they pass it.
-fn screen_bytes(g: Geometry) -> u64
-    ensures { λ r. ⌜ (r ≤ mostScreen → r ≡ screenBytes g) × (mostScreen < r → mostScreen < screenBytes g) ⌝ }
+fn screen_bytes(g: Geometry) -> usize
+    ensures { λ r. ⌜ SizeAs (screenBytes g) r ⌝ }
 {
-    let bits = (g.width as u64) * (g.depth as u64);
-    rows_bytes(bits / 16 + (bits % 16 + 15) / 16, g.height as u64)
+    let bits = (g.width as usize) * (g.depth as usize);
+    rows_bytes(g.height, (bits + 15) / 16)
 }
 
 // The line `s` with a geometry: taken if its rows keep to the limit, unless there is one already.
-fn sized(session: Session, geometry: Geometry) -> Step
+fn take_screen(session: Session, geometry: Geometry) -> LineStep
     requires { ⌜ session .opened ≡ false ⌝ }
-    ensures { λ r. ⌜ ((screen stores : List ℕ) → leaves r screen stores ≡ obeyed (line.sizing geometry) (desk session screen stores)) ⌝ }
+    ensures { λ r. ⌜ ((screen stores : List ℕ) → reactionOf r screen stores
+        ≡ afterLine (sizing geometry) (sessionState session screen stores)) ⌝ }
 {
-    if session.sized {
-        return malformed(session);
-    }
     let bytes = screen_bytes(geometry);
-    if bytes > MOST_SCREEN {
+    if session.sized | (bytes > MOST_SCREEN) {
         return malformed(session);
     }
     let mut console = session.console;
@@ -77,22 +63,27 @@ fn sized(session: Session, geometry: Geometry) -> Step
     })
 }
 
-// The line `p` with a row: taken as the table's next if its store keeps to the limit. Its store begins where the one before ends.
-fn added(session: Session, row: Row) -> Step
+// The line `p`: taken as the table's next row if its store keeps to the limit. Its store begins where the one
+// before ends.
+fn take_pane(session: Session, left: u32, top: u32, width: u32, height: u32, len: u32) -> LineStep
     requires { ⌜ session .opened ≡ false ⌝ }
-    requires { ⌜ row .start ≡ session .stores ⌝ }
-    ensures { λ r. ⌜ ((screen stores : List ℕ) → leaves r screen stores ≡ obeyed (line.adding (row .left) (row .top) (row .width) (row .height) (row .len)) (desk session screen stores)) ⌝ }
+    ensures { λ r. ⌜ ((screen stores : List ℕ) → reactionOf r screen stores
+        ≡ afterLine (adding left top width height len) (sessionState session screen stores)) ⌝ }
 {
     let k = session.console.count as usize;
-    if k >= MOST_PANES {
-        return malformed(session);
-    }
-    let total = (session.stores as u64) + (row.len as u64);
-    if total > MOST_STORES {
+    let total = (session.stores as usize) + (len as usize);
+    if (k >= MOST_PANES) | (total > MOST_STORES) {
         return malformed(session);
     }
     let mut console = session.console;
-    console.rows[k] = row;
+    console.rows[k] = Row {
+        left,
+        top,
+        width,
+        height,
+        start: session.stores,
+        len,
+    };
     console.count = k as u32 + 1;
     taken(Session {
         console,
@@ -102,66 +93,58 @@ fn added(session: Session, row: Row) -> Step
 }
 
 // The session with set-up's answer: opened if it was accepted.
-fn opened(session: Session, answered: call_common::Answered) -> Step
-    ensures { λ r. ⌜ r
-        ≡ stepped (withConsole (afterSetUp session (response (answered .reply))) (answered .console)) (outcome.Replied 111 (answered .reply)) ⌝ }
+fn after_set_up(session: Session, answered: call_common::Answered) -> LineStep
+    ensures { λ r. ⌜ r ≡ lineStep (withConsole (afterSetUp session (response (answered .reply))) (answered .console))
+        (answer.Replied letterOpen (answered .reply)) ⌝ }
 {
     let reply = answered.reply;
     match reply {
-        Reply::Refused(_) => replied(session, b'o', answered),
+        Reply::Refused(_) => replied(session, OPEN, answered),
         _ => replied(
             Session {
                 opened: true,
                 ..session
             },
-            b'o',
+            OPEN,
             answered,
         ),
     }
 }
 
 // The line `o`: set-up of what the lines before it said.
-fn open(screen: &[u8], stores: &[u8], session: Session) -> Step
+fn open(screen: &[u8], stores: &[u8], session: Session) -> LineStep
     requires { ⌜ session .opened ≡ false ⌝ }
-    ensures { λ r. ⌜ leaves r (now (screen .entry)) (now (stores .entry))
-        ≡ obeyed line.opening (desk session (now (screen .entry)) (now (stores .entry))) ⌝ }
+    ensures { λ r. ⌜ reactionOf r (now (screen .entry)) (now (stores .entry))
+        ≡ afterLine opening (sessionState session (now (screen .entry)) (now (stores .entry))) ⌝ }
 {
     if !session.sized {
         return malformed(session);
     }
-    let n = counted(session.screen as usize, screen);
-    let m = counted(session.stores as usize, stores);
-    opened(
+    let n = count_within(session.screen as usize, screen);
+    let m = count_within(session.stores as usize, stores);
+    after_set_up(
         session,
         call_setup::set_up(&screen[..n], &stores[..m], session.console),
     )
 }
 
 // A line before an accepted `o`: a call prints ?.
-pub fn obey(said: Line, screen: &[u8], stores: &[u8], session: Session) -> Step
+pub fn obey(said: Line, screen: &[u8], stores: &[u8], session: Session) -> LineStep
     requires { ⌜ session .opened ≡ false ⌝ }
-    ensures { λ r. ⌜ ((buffer : List ℕ) → leaves r (now (screen .entry)) (now (stores .entry)) ≡ obeyed (meant said buffer) (desk session (now (screen .entry)) (now (stores .entry)))) ⌝ }
+    ensures { λ r. ⌜ ((buffer : List ℕ) → reactionOf r (now (screen .entry)) (now (stores .entry))
+        ≡ afterLine (lineSaid said buffer) (sessionState session (now (screen .entry)) (now (stores .entry)))) ⌝ }
 {
     match said {
-        Line::Screen(geometry) => sized(session, geometry),
+        Line::Screen(geometry) => take_screen(session, geometry),
         Line::Pane {
             left,
             top,
             width,
             height,
             len,
-        } => added(
-            session,
-            Row {
-                left,
-                top,
-                width,
-                height,
-                start: session.stores,
-                len,
-            },
-        ),
+        } => take_pane(session, left, top, width, height, len),
         Line::Open => open(screen, stores, session),
-        _ => malformed(session),
+        Line::Ask(_, _, _) => malformed(session),
+        Line::Malformed => malformed(session),
     }
 }

@@ -1,9 +1,12 @@
-// Where a list goes on, stops or faults: the record that NOP, LINK, CALL, RETURN, the end word and a fault leave.
+// Where a list goes on, stops or faults: the record that NOP, LINK, CALL, RETURN, the end word and a fault
+// leave.
 ghost use mathlib.Core.Path.{_≡_};
 ghost use Prim.Native.Nat.{_≤_, _<_};
 ghost use Rattle.model.specs.Record.{withPointer, withReturns, ended, faulted};
 ghost use Rattle.model.specs.Effects.{keptOne, latest, withoutLatest};
 use model::Pane;
+use model::STATUS_ENDED;
+use model::STATUS_FAULTED;
 
 // NOP: the pointer goes on.
 pub fn nop(p: Pane, next: u32) -> Pane
@@ -59,7 +62,7 @@ pub fn ended(p: Pane) -> Pane
     ensures { λ r. ⌜ r ≡ ended p ⌝ }
 {
     let mut q = p;
-    q.progress.status = 2;
+    q.progress.status = STATUS_ENDED;
     q
 }
 
@@ -68,7 +71,7 @@ pub fn faulted(p: Pane, fault: u8) -> Pane
     ensures { λ r. ⌜ r ≡ faulted p fault ⌝ }
 {
     let mut q = p;
-    q.progress.status = 3;
+    q.progress.status = STATUS_FAULTED;
     q.progress.fault = fault;
     q
 }

@@ -3,8 +3,9 @@ ghost use mathlib.Core.Path.{_≡_};
 ghost use mathlib.Core.Bool.{true, false};
 ghost use Prim.Native.Nat.{_/_, _%_};
 ghost use Rattle.model.specs.Bitmaps.{bitmapOf};
-ghost use Rattle.model.specs.Record.{withPointer, withBitmap, withClip, withColours, withOperation, withPattern, withSpacing, withOrientation, withFont, withPicking};
-ghost use Rattle.model.specs.Effects.{fontOf};
+ghost use Rattle.model.specs.Record.{withPointer, withBitmap, withClip, withColours, withOperation, withPattern};
+ghost use Rattle.model.specs.Record.{withSpacing, withOrientation, withFont, withPicking};
+ghost use Rattle.model.specs.Effects.{fontOf, wholeClip};
 use model::Clip;
 use model::Font;
 use model::Pane;
@@ -12,7 +13,8 @@ use model::Text;
 
 // DEF_BITMAP: the clip becomes the whole bitmap.
 pub fn def_bitmap(p: Pane, address: u32, xmax: u16, ymax: u16, bits: u16, next: u32) -> Pane
-    ensures { λ r. ⌜ r ≡ withPointer (withClip (withBitmap p (bitmapOf address xmax ymax bits)) (record { xmin = 0; ymin = 0; xmax = xmax; ymax = ymax })) next ⌝ }
+    ensures { λ r. ⌜ r
+        ≡ withPointer (withClip (withBitmap p (bitmapOf address xmax ymax bits)) (wholeClip xmax ymax)) next ⌝ }
 {
     let bitmap = bitmaps::bitmap_of(address, xmax, ymax, bits);
     let clip = Clip {
@@ -29,7 +31,8 @@ pub fn def_bitmap(p: Pane, address: u32, xmax: u16, ymax: u16, bits: u16, next: 
 
 // DEF_CLIP_RECT.
 pub fn def_clip_rect(p: Pane, xmin: u16, ymin: u16, xmax: u16, ymax: u16, next: u32) -> Pane
-    ensures { λ r. ⌜ r ≡ withPointer (withClip p (record { xmin = xmin; ymin = ymin; xmax = xmax; ymax = ymax })) next ⌝ }
+    ensures { λ r. ⌜ r
+        ≡ withPointer (withClip p (record { xmin = xmin; ymin = ymin; xmax = xmax; ymax = ymax })) next ⌝ }
 {
     let clip = Clip {
         xmin,

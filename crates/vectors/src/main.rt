@@ -1,5 +1,6 @@
-// Runs the scripts under data/ and holds what each prints to what it must print. The arguments are the names of files in pairs: a script, and
-// its replies. Nothing here says what is read or written; what a script's replies are is the contract of script::answer.
+// Runs the scripts under data/ and holds what each prints to what it must print. The arguments are the names
+// of files in pairs: a script, and its replies. Nothing here says what is read or written; what a script's
+// replies are is the contract of script::answer.
 use libc::STDOUT_FILENO;
 ghost use Prim.Native.Nat.{_+_, _<_, _^_};
 ghost use Rattle.io.specs.Counts.{Counts};
@@ -10,7 +11,8 @@ struct File {
     length: usize,
 }
 
-// How a script went: a file is missing, the replies differ, there is no script and there are no replies, or they are as expected.
+// How a script went: a file is missing, the replies differ, there is no script and there are no replies, or
+// they are as expected.
 enum Verdict {
     Missing,
     Differs,
@@ -87,7 +89,8 @@ fn judge(k: usize)
     }
 }
 
-// Of so many arguments, the program's own name among them, the last is a script without its replies if their number is even.
+// Of so many arguments, the program's own name among them, the last is a script without its replies if their
+// number is even.
 fn judge_last(count: usize) {
     if count % 2 == 0 {
         io::write_all(STDOUT_FILENO, b"a script without its replies\n");

@@ -6,7 +6,7 @@ use Rattle.call_pixel.proofs.pixel_refusal.Tie as tie
 
 returns : tie.Need-returns
 unfolding ownRefusal
-returns c = λ p. c .refuse .ensures
+returns c = λ p. c .number-if .ensures
 
 pub pixel-refusal-spec : {M : Type 1} → statement M
 pixel-refusal-spec = tie.close (tie.spec (λ c κs. search needs) returns)

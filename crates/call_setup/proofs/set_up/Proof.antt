@@ -9,7 +9,7 @@ use Rattle.call_setup.proofs.set_up.Tie as tie
 
 returns : tie.Need-returns
 unfolding setupRefusal
-returns c = setUp-refused _ _ _ (c .refused .ensures) (c .before .before .setup-refusal .ensures) (c .before .if1 .taken)
+returns c = setUp-refused _ (c .refused .ensures) (c .before .before .setup-refusal .ensures) (c .before .if1 .taken)
 
 returns-2 : tie.Need-returns-2
 unfolding setUp setupRefusal

@@ -4,44 +4,63 @@ use borrow.Author.Needs.{needs}
 use lib.IntN.{_+ℤ_}
 use Rattle.model.specs.Coordinates.{coord, at}
 use Rattle.model.specs.Dots.{dot}
-use Rattle.coordinates.specs.Offsets.{turned}
+use Rattle.coordinates.specs.Offsets.{directed}
 use Rattle.canvas.specs.Canvas.{canvas, painted}
-use Rattle.canvas.proofs.TargetLaws.{Index, spot-index, painted-outside-x, painted-outside-y}
+use Rattle.canvas.proofs.TargetLaws.{Clipped, index-clipped, painted-outside-x, painted-outside-y}
 use Rattle.canvas.proofs.draw_dot.Statement.{statement}
 use Rattle.canvas.proofs.draw_dot.Tie as tie
 
-enum-told : tie.Need-enum-told
-enum-told c = search needs
+-- the entry, from the places where x and where y are known
+abbrev entry-x : tie.After-x → tie.Start
+entry-x c = c .before .before .before .before .before .before .before .before
+
+abbrev entry-y : tie.After-y → tie.Start
+entry-y c = entry-x (c .before .before .before .before)
 
 returns : tie.Need-returns
-returns c = sym (painted-outside-x _ _ _ (sym (c .before .before .spot-between .ensures) ∙ c .enum-told .given .1))
+returns c = sym (painted-outside-x _ _ _ (sym (c .before .before .index-between .ensures) ∙ c .enum-told .given .1))
 
 returns-2 : tie.Need-returns-2
-returns-2 c = sym (painted-outside-y _ _ _ (sym (c .before .before .spot-between2 .ensures) ∙ c .enum-told2 .given .1))
+returns-2 c = sym (painted-outside-y _ _ _ (sym (c .before .before .index-between2 .ensures) ∙ c .enum-told2 .given .1))
 
 -- x and y as indices of the clip
-module _ (c : tie.After-x) where
-  index-x : Index (c .before .before .before .before .before .before .args .t .clip .xmin) (c .before .before .before .before .before .before .args .t .clip .xmax) (coord (c .before .before .before .before .before .before .args .from .x) +ℤ turned (c .before .before .before .before .before .before .args .h .left) (c .before .before .before .before .before .before .args .kx)) (c .x .given .0 .0)
-  index-x = spot-index _ _ _ _ (sym (c .before .before .spot-between .ensures) ∙ c .x .given .1)
+module _ (c : tie.After-x) (s : tie.Start) where
+  abbrev IndexX : Type 0
+  IndexX =
+      let a = s .args in
+      Clipped (a .t .clip .xmin) (a .t .clip .xmax)
+      (coord (a .course .from .x) +ℤ directed (a .course .heading .left) (a .o .x)) (c .x .given .0 .0)
 
-module _ (c : tie.After-y) where
-  index-y : Index (c .before .before .before .before .before .before .before .before .before .before .args .t .clip .ymin) (c .before .before .before .before .before .before .before .before .before .before .args .t .clip .ymax) (coord (c .before .before .before .before .before .before .before .before .before .before .args .from .y) +ℤ turned (c .before .before .before .before .before .before .before .before .before .before .args .h .up) (c .before .before .before .before .before .before .before .before .before .before .args .ky)) (c .y .given .0 .0)
-  index-y = spot-index _ _ _ _ (sym (c .before .before .spot-between2 .ensures) ∙ c .y .given .1)
+index-x : (c : tie.After-x) → IndexX c (entry-x c)
+index-x c = index-clipped _ _ _ _ (sym (c .before .before .index-between .ensures) ∙ c .x .given .1)
+
+module _ (c : tie.After-y) (s : tie.Start) where
+  abbrev IndexY : Type 0
+  IndexY =
+      let a = s .args in
+      Clipped (a .t .clip .ymin) (a .t .clip .ymax)
+      (coord (a .course .from .y) +ℤ directed (a .course .heading .up) (a .o .y)) (c .y .given .0 .0)
+
+index-y : (c : tie.After-y) → IndexY c (entry-y c)
+index-y c = index-clipped _ _ _ _ (sym (c .before .before .index-between2 .ensures) ∙ c .y .given .1)
 
 plot-requires : tie.Need-plot-requires
 plot-requires c κs =
-    let start = c .before .before .before .before .before .before .before .before .before .before .before .before .before in
-    let ix = index-x (c .before .before .before .before .before .before .before) in
-    let iy = index-y (c .before .before .before) in
-    (start .pre .0, record { west = ix .low; east = ix .high; north = iy .low; south = iy .high }, start .pre .3)
+    let y = c .before .before .before in
+    let ix = index-x (y .before .before .before .before) in
+    let iy = index-y y in
+    let pre = entry-y y .pre in
+    (pre .0, record { west = ix .low; east = ix .high; north = iy .low; south = iy .high }, pre .3)
 
 returns-3 : tie.Need-returns-3
 returns-3 c =
     let d = c .before .before .before .before in
-    let start = d .before .before .before .before .before .before .before .before .before .before .before .before .before .before in
-    let ix = index-x (d .before .before .before .before .before .before .before .before) in
-    let iy = index-y (d .before .before .before .before) in
-    d .plot .ensures ∙ (λ i. painted (start .args .t) (dot (at (sym (ix .is) i) (sym (iy .is) i)) (start .args .source)) (canvas (start .args .screen .now) (start .args .store .now) (start .args .hits)))
+    let y = d .before .before .before .before in
+    let ix = index-x (y .before .before .before .before) in
+    let iy = index-y y in
+    let a = entry-y y .args in
+    d .plot .ensures
+    ∙ (λ i. painted (a .t) (dot (at (sym (ix .is) i) (sym (iy .is) i)) (a .source)) (canvas (a .screen .now) (a .store .now) (a .hits)))
 
 pub draw-dot-spec : {M : Type 1} → statement M
 draw-dot-spec =
@@ -49,7 +68,7 @@ draw-dot-spec =
     (tie.spec
     (λ c κs. search needs)
     (λ c. search needs)
-    enum-told
+    (λ c. search needs)
     returns
     (λ c κs. search needs)
     (λ c. search needs)

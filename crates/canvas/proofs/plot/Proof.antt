@@ -31,7 +31,8 @@ returns : tie.Need-returns
 returns c =
     let start = c .before .before .before .before in
     sym
-    (ap (λ (s : Source). painted (start .args .t) (dot (at (pos (start .args .x)) (pos (start .args .y))) s) (canvas (start .args .screen .now) (start .args .store .now) (start .args .hits)))
+    (ap (λ (s : Source). painted (start .args .t) (dot (at (pos (start .args .x)) (pos (start .args .y))) s)
+    (canvas (start .args .screen .now) (start .args .store .now) (start .args .hits)))
     (c .enum-told .given .1)
     ∙ painted-nothing _ _ _)
 
@@ -40,8 +41,9 @@ returns-2 c =
     let d = c .before .before .before .before in
     let start = d .before .before .before .before .before .before in
     let source = start .args .source in
-    counted-put (start .args .t .picking) (start .args .t .pane) (start .args .t .surface) (changeWith (start .args .t) source (start .args .x) (start .args .y))
-    (start .args .screen .now) (start .args .store .now) _ _ (start .args .hits) (d .put .ensures)
+    counted-put (start .args .t .picking) (start .args .t .area .onscreen) (start .args .t .area .surface)
+    (changeWith (start .args .t) source (start .args .x) (start .args .y))
+    (start .args .screen .now) (start .args .store .now) _ _ (start .args .hits) (d .set-pixel .ensures)
     ∙ sym (painted-hit (start .pre .0) (start .pre .1) source (is-something source (d .before .before .before .match .keys2)) _)
 
 pub plot-spec : {M : Type 1} → statement M

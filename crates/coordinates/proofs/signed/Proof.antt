@@ -26,7 +26,8 @@ returns c = pos32 (c .before .args .p) (omega arith) ∙ sym (coord-low (c .befo
 
 returns-2 : tie.Need-returns-2
 returns-2 c =
-    rw (read c) (toZ-ofZ {w = w32} (difference-fits (c .before .args .p) (c .if1 .left) (omega arith)) ∙ coord-difference (c .before .args .p) (c .if1 .left) (omega arith))
+    rw (read c) (toZ-ofZ {w = w32} (difference-fits (c .before .args .p) (c .if1 .left) (omega arith)) ∙ coord-difference (c .before .args .p) (c .if1 .left)
+    (omega arith))
 
 pub signed-spec : {M : Type 1} → statement M
 signed-spec = tie.close (tie.spec (λ c. search needs) (λ c. search needs) sub-result returns returns-2)

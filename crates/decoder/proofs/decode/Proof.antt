@@ -1,5 +1,5 @@
 -- The tests come in the order of the definition: pointer, end bit, opcode, parameter words. Past the first two (`fetched`) what is left is
--- `fetch` of the opcode's shape, and the shape's number of words is the command's own (`shape-count`).
+-- `fetch` of the opcode's shape, and the shape's number of words is the command's own (`opcode-of-count`).
 use Prim.Native.Nat.{ℕ, _+_, _/_, _%_, _≤_}
 use native.Mathlib.Omega.{arith}
 use denote.Ref.{now}
@@ -9,9 +9,9 @@ use lib.Dec.{eqb, ltb}
 use lib.ListN.{length}
 use borrow.Author.Needs.{needs}
 use borrow.Author.Tests.{lt-ltb, le-ltb, ltb-false}
-use Rattle.model.specs.Commands.{shapeOf, fetch, decode}
+use Rattle.model.specs.Commands.{opcodeOf, fetch, decode}
 use Rattle.model.proofs.Decisions.{either-false}
-use Rattle.decoder.proofs.ShapeLaws.{shape-count}
+use Rattle.decoder.proofs.OpcodeLaws.{opcode-of-count}
 use Rattle.decoder.proofs.decode.Statement.{statement}
 use Rattle.decoder.proofs.decode.Tie as tie
 
@@ -32,7 +32,7 @@ pointer c = c .before .before .before .before .before .args .pointer
 
 -- past the tests on the pointer and the end bit
 fetched : (c : tie.Else2) →
-    decode (length (store c)) (store c) (pointer c) ≡ fetch (length (store c)) (store c) (pointer c) (shapeOf (c .before .before .word .result / 256))
+    decode (length (store c)) (store c) (pointer c) ≡ fetch (length (store c)) (store c) (pointer c) (opcodeOf (c .before .before .word .result / 256))
 unfolding decode
 fetched c = simp (c .before .before .before .if1 .left, ← c .before .before .word .ensures, ← c .before .ends .ensures, c .if2 .left)
 
@@ -53,26 +53,26 @@ enum-told c = search needs
 
 returns-3 : tie.Need-returns-3
 unfolding fetch
-returns-3 c = rw (fetched (c .before .before .before), ← c .before .before .shape .ensures, c .enum-told .given .1)
+returns-3 c = rw (fetched (c .before .before .before), ← c .before .before .opcode-of .ensures, c .enum-told .given .1)
 
 returns-4 : tie.Need-returns-4
 unfolding fetch
 returns-4 c =
     rw (
       fetched (c .before .before .before .before .before),
-      ← c .before .before .before .before .shape .ensures,
+      ← c .before .before .before .before .opcode-of .ensures,
       c .before .before .op .given .1,
       lt-ltb _ _ (c .if3 .taken),
     )
 
 command-requires : tie.Need-command-requires
 command-requires c κs =
-    let count = shape-count
+    let count = opcode-of-count
     (c .before .before .before .before .before .before .before .word .result / 256)
     (c .before .before .op .given .0 .0)
     (c .before .before .op .given .0 .1 .0)
     (omega arith)
-    (sym (c .before .before .before .before .shape .ensures) ∙ c .before .before .op .given .1) in
+    (sym (c .before .before .before .before .opcode-of .ensures) ∙ c .before .before .op .given .1) in
     rw (← count) (omega arith)
 
 returns-5 : tie.Need-returns-5
@@ -80,7 +80,7 @@ unfolding fetch
 returns-5 c =
     rw (
       fetched (c .before .before .before .before .before .before),
-      ← c .before .before .before .before .before .shape .ensures,
+      ← c .before .before .before .before .before .opcode-of .ensures,
       c .before .before .before .op .given .1,
       le-ltb _ _ (c .before .if3 .left),
       c .command .ensures,

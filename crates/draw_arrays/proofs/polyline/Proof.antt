@@ -1,91 +1,78 @@
 -- `draw_arrays::polyline` meets its contract. The loop's invariant: what is left from pair k on, drawn from the position on what the
--- buffers are now, gives the whole; and the array reads as it did at entry.
-use mathlib.Core.Path.{_≡_, _∙_}
-use Prim.Native.Nat.{ℕ, _+_, _-_, _*_, _≤_, _<_}
+-- buffers are now, gives the whole; the trap flag is not set; and the array lies in the store, where it reads as it did at entry.
+use mathlib.Core.Path.{_≡_, refl, _∙_}
+use mathlib.Core.Bool.{false}
+use Prim.Native.Nat.{_+_, _-_, _*_, _≤_}
 use native.Mathlib.Omega.{arith}
-use lib.ListN.{length}
-use Rattle.model.specs.Coordinates.{coord, place}
-use Rattle.model.specs.Lines.{lineDots, pairsAt, polyline}
-use Rattle.canvas.proofs.TargetLaws.{ready-on}
-use Rattle.draw_arrays.proofs.ArrayLaws.{Along, along-first, along-next, along-last, Reads, along-word, lineDots-few, pairsLeft, pairsLeft-all, pairsLeft-next, pairsLeft-none}
 use borrow.Author.Needs.{needs}
+use lib.ListN.{length}
+use Rattle.model.specs.Coordinates.{place}
+use Rattle.model.specs.Lines.{pairsAt, polyline}
+use Rattle.canvas.specs.Canvas.{canvas}
+use Rattle.canvas.proofs.LoopLaws.{Underway, underway-ready, underway-word}
+use Rattle.draw_lines.specs.Segments.{longestLine}
+use Rattle.canvas.proofs.ReachLaws.{reach-room}
+use Rattle.draw_arrays.proofs.ArrayLaws.{underway-line, itemsLeft, items-first, items-last, pairAt, polyline-next}
 use Rattle.draw_arrays.proofs.polyline.Statement.{statement}
 use Rattle.draw_arrays.proofs.polyline.Tie as tie
 
 abbrev Inv-loop : tie.InvT-loop
 Inv-loop screen₀ store₀ t array n d₀ k₀ screen store d k =
-    Along t (polyline (t .pen) (d₀ .position) (pairsAt store₀ array n)) (pairsLeft (t .pen) store₀ array n k (d .position)) screen₀ store₀ screen store (d .hits) k n
+    Underway t (polyline (t .pen) (d₀ .position) (pairsAt store₀ array n)) (itemsLeft (polyline (t .pen)) (pairAt store₀ array) n k (d .position))
+    longestLine (canvas screen₀ store₀ 0) screen store d k n
+    × (d .trap ≡ false)
+    × (4 * n ≤ length store₀ - array)
 
 abbrev μ-loop : tie.MeasureT-loop
 μ-loop screen₀ store₀ t array n d₀ k₀ screen store d k = n - k
 
+-- the entry, from the loop's head, and the head, from the place where a pair is read
+abbrev entry : tie.At-loop Inv-loop μ-loop → tie.Start Inv-loop μ-loop
+entry l = l .before .before .before
+
+abbrev head : tie.After-word2 Inv-loop μ-loop → tie.At-loop Inv-loop μ-loop
+head r = r .before .before .before .before .before
+
 loop-holds : tie.Need-loop-holds Inv-loop μ-loop
+unfolding pairsAt
 loop-holds c =
     let a = c .before .before .args in
-    rw (pairsLeft-all (a .t .pen) (a .store .now) (a .array) (a .n) (a .from)) (along-first (a .t) _ (a .screen .now) (a .store .now) (a .n))
-
--- a word of pair k, and its last byte
-module _ (l : tie.At-loop Inv-loop μ-loop) (h : l .loop .k < l .before .before .before .args .n) where
-  read : (j : ℕ) → l .before .before .before .args .array + 4 * l .loop .k ≤ j → j + 1 < l .before .before .before .args .array + 4 * l .loop .k + 4
-      → Reads (l .before .before .before .args .store .now) (l .loop .store) j
-  read j lo hi = along-word (l .before .before .before .pre .2) (l .loop .inv) j (omega arith) (omega arith)
-
-  inside : l .before .before .before .args .array + 4 * l .loop .k + 3 < length (l .loop .store)
-  inside = omega (arith, read (l .before .before .before .args .array + 4 * l .loop .k + 2) (omega arith) (omega arith) .inside)
+    (items-first (polyline (a .t .pen)) _ (a .n) (a .t) (a .screen .now) (a .store .now) (a .from), refl, reach-room (c .before .before .pre .2))
 
 add-at : tie.Need-add-at Inv-loop μ-loop
-add-at c = omega (arith, inside (c .before) (c .loop-test .taken), c .before .before .before .before .good)
-
-word-requires : tie.Need-word-requires Inv-loop μ-loop
-word-requires c κs = omega (arith, inside (c .before .before) (c .before .loop-test .taken))
-
-add-word : tie.Need-add-word Inv-loop μ-loop
-add-word c =
-    omega (arith, inside (c .before .before .before .before) (c .before .before .before .loop-test .taken), c .before .before .before .before .before .before .before .good)
-
-word-requires-2 : tie.Need-word-requires-2 Inv-loop μ-loop
-word-requires-2 c κs = omega (arith, inside (c .before .before .before .before) (c .before .before .before .loop-test .taken))
+add-at c = omega (arith, entry (c .before) .good)
 
 leg-requires : tie.Need-leg-requires Inv-loop μ-loop
 leg-requires c κs =
-    let l = c .before .before .before .before .before .before .before in
-    let start = l .before .before .before in
-    (ready-on (l .loop .inv .lengths .screen) (l .loop .inv .lengths .store) (start .pre .0), omega (arith, l .loop .inv .few, l .loop .inv .turn, start .pre .1))
+    let l = head (c .before .before) in
+    (underway-ready (l .loop .inv .0) (entry l .pre .0), omega (arith, l .loop .inv .0 .few, l .loop .inv .0 .turn, entry l .pre .1))
 
 loop-again : tie.Need-loop-again Inv-loop μ-loop
 loop-again c =
-    let d = c .before .before .before .before in
-    let w = d .before .before .before in
-    let v = w .before .before in
-    let g = v .before .before in
+    let s = c .before .before .before .before in
+    let y = s .before .before .before in
+    let x = y .before .before in
+    let g = x .before .before in
     let l = g .before in
-    let start = l .before .before .before in
-    let a = start .args in
-    let k = l .loop .k in
-    let from = l .loop .d .position in
-    let to = d .leg .result .position in
-    let at = a .array + 4 * k in
-    let taken = g .loop-test .taken in
-    let bx : v .word .result < 65536 = search needs in
-    let by : w .word2 .result < 65536 = search needs in
-    along-next (pairsLeft (a .t .pen) (a .store .now) (a .array) (a .n) (k + 1) to) (start .pre .0)
-    (lineDots (a .t .pen) (place from) (coord (v .word .result)) (coord (w .word2 .result))) (lineDots-few _ _ _ _ bx by)
-    (pairsLeft-next (a .t .pen) (a .store .now) (a .array) (a .n) k from to taken
-    (v .word .ensures ∙ read l taken at (omega arith) (omega arith) .same) (w .word2 .ensures ∙ read l taken (at + 2) (omega arith) (omega arith) .same) (d .leg .ensures .1))
-    taken (l .loop .inv) (d .leg .ensures .0)
-
-same-length : tie.Need-same-length Inv-loop μ-loop
-same-length c = c .before .loop .inv .lengths .screen
-
-same-length-2 : tie.Need-same-length-2 Inv-loop μ-loop
-same-length-2 c = c .before .loop .inv .lengths .store
+    let a = entry l .args in
+    let at = a .array + 4 * l .loop .k in
+    let same = underway-word (l .loop .inv .0) (entry l .pre .2) in (
+      underway-line (l .loop .inv .0) (entry l .pre .0) (l .loop .inv .1) (g .loop-test .taken) _
+          (place (l .loop .d .position)) (x .word .result) (y .word2 .result)
+          (polyline-next (a .t .pen) (a .store .now) (a .array) (a .n) (l .loop .k) (l .loop .d .position) _ (g .loop-test .taken)
+          (x .word .ensures ∙ same at (omega arith) (omega arith)) (y .word2 .ensures ∙ same (at + 2) (omega arith) (omega arith))
+          (s .leg .ensures .position))
+          (s .leg .ensures),
+      s .leg .ensures .trap,
+      l .loop .inv .2,
+    )
 
 returns : tie.Need-returns Inv-loop μ-loop
+unfolding polyline
 returns c =
     let l = c .before in
-    let a = l .before .before .before .args in
-    let e : l .loop .k ≡ a .n = omega (arith, l .loop .inv .turn, c .loop-test .left) in
-    along-last (l .loop .d .position) (pairsLeft-none (a .t .pen) (a .store .now) (a .array) (a .n) (l .loop .k) (l .loop .d .position) e) (l .loop .inv)
+    let a = entry l .args in
+    items-last (polyline (a .t .pen)) (pairAt (a .store .now) (a .array)) (a .n) (l .loop .inv .0) (c .loop-test .left) refl
 
 pub polyline-spec : {M : Type 1} → statement M
 polyline-spec =
@@ -96,13 +83,13 @@ polyline-spec =
     loop-holds
     (λ c. search needs)
     add-at
-    word-requires
-    add-word
-    word-requires-2
+    (λ c κs. search needs)
+    (λ c. search needs)
+    (λ c κs. search needs)
     leg-requires
     (λ c. search needs)
     (λ c. search needs)
     loop-again
-    same-length
-    same-length-2
+    (λ c. search needs)
+    (λ c. search needs)
     returns)

@@ -1,25 +1,43 @@
--- `draw_copies::bit_blt_m` meets its contract: no pixel drawn is one of the source, so that values read as it goes are those that stood there before.
-use mathlib.Core.Path.{_∙_}
+-- `draw_copies::bit_blt_m` meets its contract: no pixel drawn is one of the source, so that values read as it
+-- goes are those that stood there before.
+use mathlib.Core.Path.{refl, _∙_}
 use borrow.Author.Needs.{needs}
-use Rattle.canvas.specs.Canvas.{canvas}
+use Rattle.model.specs.Copies.{copy}
 use Rattle.draw_copies.proofs.CopyLaws.{patch-movable, copied-apart}
 use Rattle.draw_copies.proofs.bit_blt_m.Statement.{statement}
 use Rattle.draw_copies.proofs.bit_blt_m.Tie as tie
 
+-- the entry, from the place where the patch is known
+abbrev entry : tie.After-patch-of → tie.Start
+entry c = c .before .before .before
+
 move-all-requires : tie.Need-move-all-requires
 move-all-requires c κs =
-    let s = c .before .before .before .before .before in
-    (patch-movable (c .before .before .patch-of .ensures) (s .pre .0) (s .pre .1) (s .pre .2), s .pre .4)
+    let p = c .before .before in
+    let pre = entry p .pre in
+    patch-movable _ (p .patch-of .ensures) (pre .0) (pre .1 .readable) (pre .1 .within)
 
 returns : tie.Need-returns
+unfolding copy
 returns c =
-    let d = c .before .before .before .before in
-    let s = d .before .before .before .before .before .before in
-    let p = d .before .before .before .patch-of in
-    d .move-all .ensures
-    ∙ copied-apart (s .args .t) (s .args .from) (s .args .sx) (s .args .sy) (s .args .dx) (s .args .dy) (p .result) (canvas (s .args .screen .now) (s .args .store .now) (s .args .hits))
-    (s .pre .0) (p .ensures) (s .args .pane) (s .args .u) _ (s .pre .3)
+    let d = c .before .before .before .before .before in
+    let p = d .before .before .before in
+    let s = entry p in
+    let a = s .args in record {
+      dots =
+          d .move-all .ensures
+          ∙ copied-apart (a .t) (a .from) (a .b) (p .patch-of .result) _ (s .pre .0) (p .patch-of .ensures) (a .source) _ (s .pre .1);
+      position = c .copied-to .ensures;
+      trap = refl;
+    }
 
 pub bit-blt-m-spec : {M : Type 1} → statement M
 bit-blt-m-spec =
-    tie.close (tie.spec (λ c κs. search needs) move-all-requires (λ c. search needs) (λ c. search needs) returns)
+    tie.close
+    (tie.spec
+    (λ c κs. search needs)
+    move-all-requires
+    (λ c κs. search needs)
+    (λ c. search needs)
+    (λ c. search needs)
+    returns)

@@ -1,28 +1,38 @@
--- `draw_copies::value_of` meets its contract: the pixel is read in the buffer in which the bitmap lies.
-use mathlib.Core.Path.{_∙_, ap, sym}
+-- `draw_copies::value_of` meets its contract: the pixel is read in the buffer in which the area lies.
+use mathlib.Core.Path.{_≡_}
 use mathlib.Core.List.{List}
-use Prim.Native.Nat.{ℕ}
-use Rattle.model.specs.Bitmaps.{pixels}
+use Prim.Native.Nat.{ℕ, _<_}
+use native.Mathlib.Omega.{arith}
+use lib.ListN.{length}
+use Rattle.model.specs.declared.Surface.{Surface}
 use Rattle.model.proofs.Decisions.{cond-true, cond-false}
-use Rattle.draw_copies.proofs.LoopLaws.{drawable}
+use Rattle.bitmaps.specs.Areas.{Readable}
+use Rattle.raster.specs.Place.{Drawable}
 use Rattle.draw_copies.proofs.value_of.Statement.{statement}
 use Rattle.draw_copies.proofs.value_of.Tie as tie
 
-pixel-requires : tie.Need-pixel-requires
-pixel-requires c κs = let s = c .before .before .before in drawable (s .pre .0) _ (cond-true _ _ (c .if1 .taken)) (s .pre .1) (s .pre .2)
+-- a pixel of a surface that can be read in a buffer of this length
+drawable : {u : Surface} {n x y : ℕ} → Readable u n → (l : List ℕ) → n ≡ length l → x < u .width → y < u .height → Drawable u l x y
+drawable h l e a b =
+    record { fits = record { depth = h .depth; right = h .right; long = omega (arith, h .long, e) }; small = h .small; column = a; row = b }
+
+-- the entry, from the place where the surface is known
+abbrev entry : tie.After-s → tie.Start
+entry c = c .before .before .before
+
+-- in the screen
+pixel-at-requires : tie.Need-pixel-at-requires
+pixel-at-requires c κs = let pre = entry (c .before) .pre in drawable (pre .0) _ (cond-true _ _ (c .if1 .taken)) (pre .1) (pre .2)
 
 returns : tie.Need-returns
-returns c =
-    let s = c .before .before .before .before in
-    c .pixel .ensures ∙ ap (λ (l : List ℕ). pixels (s .args .u) l (s .args .x) (s .args .y)) (sym (cond-true _ _ (c .before .if1 .taken)))
+returns c = rw (c .before .if1 .taken) (c .pixel-at .ensures)
 
-pixel-requires-2 : tie.Need-pixel-requires-2
-pixel-requires-2 c κs = let s = c .before .before .before in drawable (s .pre .0) _ (cond-false _ _ (c .if1 .left)) (s .pre .1) (s .pre .2)
+-- in the store
+pixel-at-requires-2 : tie.Need-pixel-at-requires-2
+pixel-at-requires-2 c κs = let pre = entry (c .before) .pre in drawable (pre .0) _ (cond-false _ _ (c .if1 .left)) (pre .1) (pre .2)
 
 returns-2 : tie.Need-returns-2
-returns-2 c =
-    let s = c .before .before .before .before in
-    c .pixel2 .ensures ∙ ap (λ (l : List ℕ). pixels (s .args .u) l (s .args .x) (s .args .y)) (sym (cond-false _ _ (c .before .if1 .left)))
+returns-2 c = rw (c .before .if1 .left) (c .pixel-at2 .ensures)
 
 pub value-of-spec : {M : Type 1} → statement M
-value-of-spec = tie.close (tie.spec pixel-requires returns pixel-requires-2 returns-2)
+value-of-spec = tie.close (tie.spec pixel-at-requires returns pixel-at-requires-2 returns-2)

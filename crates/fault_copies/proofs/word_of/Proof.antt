@@ -1,7 +1,7 @@
 -- `fault_copies::word_of` meets its contract: a column's bits are few.
 use mathlib.Core.Path.{refl}
 use native.Mathlib.Omega.{arith}
-use Rattle.fault_copies.proofs.RowLaws.{product-small}
+use Rattle.fault_copies.proofs.BlockLaws.{product-small}
 use Rattle.fault_copies.proofs.word_of.Statement.{statement}
 use Rattle.fault_copies.proofs.word_of.Tie as tie
 

@@ -1,7 +1,7 @@
 -- `processor::obey` meets its contract: a fault is recorded and nothing else, and a command without one is done.
 use mathlib.Core.Path.{sym, _∙_}
+use native.Mathlib.Omega.{arith}
 use borrow.Author.Needs.{needs}
-use Rattle.drawing.specs.Stepping.{left}
 use Rattle.processor.proofs.ObeyLaws.{obeyed-fault, obeyed-done}
 use Rattle.processor.proofs.obey.Statement.{statement}
 use Rattle.processor.proofs.obey.Tie as tie
@@ -13,24 +13,33 @@ fault-of-requires c κs =
 
 returns : tie.Need-returns
 returns c =
-    let start = c .before .before .before .before .before .before in
-    obeyed-fault (start .args .g) (start .args .r) (start .args .p) (start .args .next) (start .args .c) (start .args .screen .now) (start .args .store .now)
-    (c .before .before .fault-of .result) _ (c .before .before .fault-of .ensures) (c .before .if1 .taken) (c .faulted .ensures)
+    let judged = c .before .before .before in
+    rw (c .finish-with .ensures)
+    (record {
+      leaves = obeyed-fault _ _ _ _ _ _ _ _ _ (judged .fault-of .ensures) (c .before .before .if1 .taken) (c .before .faulted .ensures);
+      one = omega arith;
+      few = omega arith;
+    })
 
 perform-requires : tie.Need-perform-requires
 perform-requires c κs =
-    let start = c .before .before .before .before .before .before .before in
-    record { sound = start .pre .0; clear = sym (c .before .before .before .fault-of .ensures) ∙ c .before .before .if1 .left }
+    let judged = c .before .before .before in
+    let start = judged .before .before .before .before in
+    record { sound = start .pre .0; clear = sym (judged .fault-of .ensures) ∙ c .before .before .if1 .left }
 
 returns-2 : tie.Need-returns-2
 returns-2 c =
-    let d = c .before .before .before .before in
-    let start = d .before .before .before .before .before .before .before .before in
-    d .perform .ensures
-    ∙ obeyed-done (start .args .g) (start .args .r) (start .args .p) (start .args .next) (start .args .c) (start .args .screen .now) (start .args .store .now)
-    (sym (d .before .before .before .before .fault-of .ensures) ∙ d .before .before .before .if1 .left)
+    let d = c .before .before .before .before .before in
+    let judged = d .before .before .before .before in
+    rw (c .finish-with2 .ensures)
+    (record {
+      leaves = d .perform .ensures .leaves ∙ obeyed-done _ _ _ _ _ _ _ (sym (judged .fault-of .ensures) ∙ d .before .before .before .if1 .left);
+      one = omega arith;
+      few = d .perform .ensures .few;
+    })
 
 pub obey-spec : {M : Type 1} → statement M
 obey-spec =
     tie.close
-    (tie.spec fault-of-requires (λ c κs. search needs) (λ c. search needs) returns perform-requires (λ c. search needs) (λ c. search needs) returns-2)
+    (tie.spec fault-of-requires (λ c κs. search needs) (λ c κs. search needs) (λ c. search needs) returns perform-requires
+    (λ c κs. search needs) (λ c. search needs) (λ c. search needs) returns-2)

@@ -2,7 +2,7 @@
 -- budget left are at most the budget. The measure is the budget left.
 use mathlib.Core.Path.{_≡_, refl, sym, ap, _∙_}
 use mathlib.Core.Logic.{_⊎_, ⊎-elim}
-use Prim.Native.Nat.{ℕ, suc, _-_, _≤_}
+use Prim.Native.Nat.{ℕ, suc, _-_}
 use native.Mathlib.Omega.{arith}
 use borrow.Author.Needs.{needs}
 use denote.Enum.Declared.{tagOf}
@@ -11,21 +11,22 @@ use Rattle.model.specs.declared.Decoded.{Decoded}
 use Rattle.model.specs.declared.Decoded.the-variants.{Do}
 use Rattle.model.specs.Commands.{decode}
 use Rattle.model.specs.Numbers.{statusRunning}
-use Rattle.model.specs.Runs.{stepped, runs}
+use Rattle.model.specs.Runs.{Finish, stepped, runs}
 use Rattle.model.proofs.Decoded.{the-type}
 use Rattle.decoder.proofs.DecodeLaws.{decode-addressed}
-use Rattle.drawing.specs.Stepping.{Left, left, leftOf}
+use Rattle.perform.specs.Performing.{finish}
 use Rattle.processor.specs.Obeying.{obeyed}
 use Rattle.processor.proofs.ObeyLaws.{stepped-do}
-use Rattle.processor.proofs.RunningLaws.{Running, onward, onward-none, onward-zero, onward-idle, onward-step, onward-stopped, sound-step, count-step}
+use Rattle.processor.proofs.RunningLaws.{Running, onward, onward-none, onward-zero, onward-idle, onward-step, onward-stopped, sound-step}
 use Rattle.processor.proofs.run.Statement.{statement}
 use Rattle.processor.proofs.run.Tie as tie
 
 abbrev Inv-loop : tie.InvT-loop
-Inv-loop screen₀ store₀ g r budget q₀ count₀ rest₀ screen store q count rest = Running g r budget q₀ screen₀ store₀ screen store q count rest
+Inv-loop screen₀ store₀ f budget q₀ count₀ hits₀ rest₀ screen store q count hits rest =
+    Running (f .geometry) (f .row) budget q₀ screen₀ store₀ screen store q count hits rest
 
 abbrev μ-loop : tie.MeasureT-loop
-μ-loop screen₀ store₀ g r budget q₀ count₀ rest₀ screen store q count rest = rest
+μ-loop screen₀ store₀ f budget q₀ count₀ hits₀ rest₀ screen store q count hits rest = rest
 
 loop-holds : tie.Need-loop-holds Inv-loop μ-loop
 loop-holds c = record {
@@ -34,20 +35,22 @@ loop-holds c = record {
   wide = refl;
   tall = refl;
   spent = omega arith;
+  few = omega arith;
   same = onward-none _ _ _ _ _ _;
 }
 
 same-length : tie.Need-same-length Inv-loop μ-loop
-same-length c = c .before .before .before .loop .inv .wide
+same-length c = c .before .before .before .before .loop .inv .wide
 
 same-length-2 : tie.Need-same-length-2 Inv-loop μ-loop
-same-length-2 c = c .before .before .before .loop .inv .tall
+same-length-2 c = c .before .before .before .before .loop .inv .tall
 
 -- a pane that does not run
 returns : tie.Need-returns Inv-loop μ-loop
 returns c =
-    let l = c .before .before .before .loop in
-    sym (onward-idle _ _ (l .rest) (left (l .count) (l .q) (l .screen) (l .store)) (c .if1 .taken)) ∙ l .inv .same
+    let l = c .before .before .before .before .loop in
+    rw (c .finish-with .ensures)
+    (sym (onward-idle _ _ (l .rest) (finish (l .count) (l .hits) (l .q) (l .screen) (l .store)) (c .before .if1 .taken)) ∙ l .inv .same)
 
 -- ## What stands at the pointer
 
@@ -62,7 +65,7 @@ module _ (c : tie.After-decode Inv-loop μ-loop) where
   head = c .before .before .before .before .before
 
   -- the decoder is asked with the row's length
-  decoded : c .decode .result ≡ decode (start .args .r .len) (head .loop .store) (head .loop .q .progress .pointer)
+  decoded : c .decode .result ≡ decode (start .args .f .row .len) (head .loop .store) (head .loop .q .progress .pointer)
   decoded = c .decode .ensures ∙ ap (λ (n : ℕ). decode n (head .loop .store) (head .loop .q .progress .pointer)) (head .loop .inv .sound .placed .part)
 
   running : head .loop .q .progress .status ≡ statusRunning
@@ -73,10 +76,13 @@ module _ (c : tie.After-decode Inv-loop μ-loop) where
   one-left = omega (arith, c .before .before .before .before .loop-test .taken)
 
   -- what is left to run, from here
-  from-here : onward (start .args .g) (start .args .r) (suc (head .loop .rest - 1)) (left (head .loop .count) (head .loop .q) (head .loop .screen) (head .loop .store))
-      ≡ leftOf (runs (start .args .g) (start .args .r) (start .args .budget) (start .args .p) (start .args .screen .now) (start .args .store .now))
+  abbrev so-far : Finish
+  so-far = finish (head .loop .count) (head .loop .hits) (head .loop .q) (head .loop .screen) (head .loop .store)
+
+  from-here : onward (start .args .f .geometry) (start .args .f .row) (suc (head .loop .rest - 1)) so-far
+      ≡ runs (start .args .f .geometry) (start .args .f .row) (start .args .budget) (start .args .p) (start .args .screen .now) (start .args .store .now)
   from-here =
-      ap (λ (n : ℕ). onward (start .args .g) (start .args .r) n (left (head .loop .count) (head .loop .q) (head .loop .screen) (head .loop .store))) one-left
+      ap (λ (n : ℕ). onward (start .args .f .geometry) (start .args .f .row) n so-far) one-left
       ∙ head .loop .inv .same
 
 -- ## The end, or a fault
@@ -88,18 +94,20 @@ no-command d h c next e =
     ⊎-elim (λ f. omega arith) (λ f. omega arith) h
 
 same-length-3 : tie.Need-same-length-3 Inv-loop μ-loop
-same-length-3 c = head (c .before .before) .loop .inv .wide
+same-length-3 c = head (c .before .before .before) .loop .inv .wide
 
 same-length-4 : tie.Need-same-length-4 Inv-loop μ-loop
-same-length-4 c = head (c .before .before) .loop .inv .tall
+same-length-4 c = head (c .before .before .before) .loop .inv .tall
 
 returns-2 : tie.Need-returns-2 Inv-loop μ-loop
 returns-2 c =
-    let d = c .before .before in
+    let e = c .before in
+    let d = e .before .before in
     let l = head d .loop in
-    sym (onward-stopped (start d .args .g) (start d .args .r) (l .rest - 1) (l .count) (l .q) (c .stopped .result) (l .screen) (l .store) (d .decode .result)
-    (running d) (decoded d) (no-command (d .decode .result) (c .before .match .keys2)) (c .stopped .ensures))
-    ∙ from-here d
+    rw (c .finish-with2 .ensures)
+    (sym (onward-stopped (start d .args .f .geometry) (start d .args .f .row) (l .rest - 1) (l .count) (l .hits) (l .q) (e .stopped .result)
+    (l .screen) (l .store) (d .decode .result) (running d) (decoded d) (no-command (d .decode .result) (e .before .match .keys2)) (e .stopped .ensures))
+    ∙ from-here d)
 
 -- ## A command
 
@@ -109,10 +117,10 @@ obey-requires c κs =
     let l = head d .loop in
     let command = c .before .before .before .d .given in (
       l .inv .sound,
-      decode-addressed (start d .args .r .len) (l .store) (l .q .progress .pointer) _ (command .0 .1 .0) (l .inv .bytes) (sym (decoded d) ∙ command .1),
+      decode-addressed (start d .args .f .row .len) (l .store) (l .q .progress .pointer) _ (command .0 .1 .0) (l .inv .bytes) (sym (decoded d) ∙ command .1),
     )
 
--- .. is a step, and counts one at the most
+-- .. is a step
 module _ (c : tie.After-obey Inv-loop μ-loop) where
   abbrev asked : tie.After-decode Inv-loop μ-loop
   asked = c .before .before .before .before .before .before
@@ -120,61 +128,71 @@ module _ (c : tie.After-obey Inv-loop μ-loop) where
   abbrev lap : tie.At-loop Inv-loop μ-loop
   lap = head asked
 
-  step-done : {l : Left} → l ≡ obeyed (start asked .args .g) (start asked .args .r) (lap .loop .q) (c .before .before .before .before .d .given .0 .1 .0) (c .before .before .before .before .d .given .0 .0) (lap .loop .screen) (lap .loop .store)
-      → l ≡ leftOf (stepped (start asked .args .g) (start asked .args .r) (lap .loop .q) (lap .loop .screen) (lap .loop .store))
-  step-done e =
-      e
-      ∙ stepped-do (start asked .args .g) (start asked .args .r) (lap .loop .q) (lap .loop .screen) (lap .loop .store) _ _ (sym (decoded asked) ∙ c .before .before .before .before .d .given .1)
+  step-done : {e : Finish} →
+      let f = start asked .args .f in
+      let told = c .before .before .before .before .d .given .0 in
+      e ≡ obeyed (f .geometry) (f .row) (lap .loop .q) (told .1 .0) (told .0) (lap .loop .screen) (lap .loop .store)
+      → e ≡ stepped (f .geometry) (f .row) (lap .loop .q) (lap .loop .screen) (lap .loop .store)
+  step-done e = e ∙ stepped-do _ _ _ _ _ _ _ (sym (decoded asked) ∙ c .before .before .before .before .d .given .1)
 
-  one : c .obey .result .count ≤ 1
-  one = count-step (start asked .args .g) (start asked .args .r) (lap .loop .q) (lap .loop .screen) (lap .loop .store) (step-done (c .obey .ensures))
+-- the place after the command, from that where its record is kept
+abbrev obeyed-at : tie.After-q Inv-loop μ-loop → tie.After-obey Inv-loop μ-loop
+obeyed-at c = c .before .before .before .before .before
 
+-- the counts fit
 add-count : tie.Need-add-count Inv-loop μ-loop
 add-count c =
-    let d = c .before .before .before .before .before .before in
-    let k = one d in
-    record { fits = omega (arith, lap d .loop .inv .spent, one-left (asked d), start (asked d) .fits .budget .fits) }
+    let d = obeyed-at (c .before) in
+    record { fits = omega (arith, lap d .loop .inv .spent, d .obey .ensures .one, one-left (asked d), start (asked d) .fits .budget .fits) }
+
+add-hits : tie.Need-add-hits Inv-loop μ-loop
+add-hits c =
+    let d = obeyed-at (c .before .before) in
+    omega (arith, lap d .loop .inv .few, d .obey .ensures .few, one-left (asked d), start (asked d) .fits .budget .fits)
 
 sub-rest : tie.Need-sub-rest Inv-loop μ-loop
-sub-rest c = omega (arith, one-left (asked (c .before .before .before .before .before .before)))
+sub-rest c = omega (arith, one-left (asked (obeyed-at (c .before .before))))
 
 loop-less : tie.Need-loop-less Inv-loop μ-loop
-loop-less c = omega (arith, one-left (asked (c .before .before .before .before .before .before)))
+loop-less c = omega (arith, one-left (asked (obeyed-at (c .before .before))))
 
 loop-again : tie.Need-loop-again Inv-loop μ-loop
 loop-again c =
-    let d = c .before .before .before .before .before .before in
+    let d = obeyed-at (c .before .before) in
     let l = lap d .loop in
-    let k = one d in
-    let e = step-done d (d .obey .ensures) in
+    let f = start (asked d) .args .f in
+    let e = step-done d (d .obey .ensures .leaves) in
     record {
-      sound = sound-step (l .screen) (l .store) _ _ _ (running (asked d)) (l .inv .bytes) (l .inv .sound) (d .obey .kept .0) (d .obey .kept .1 .0) e;
-      bytes = λ i. c .before .before .slice-known4 .given i .fits;
+      sound = sound-step (l .screen) (l .store) _ _ _ _ (running (asked d)) (l .inv .bytes) (l .inv .sound) (d .obey .kept .0) (d .obey .kept .1 .0) e;
+      bytes = λ i. c .before .before .before .slice-known4 .given i .fits;
       wide = d .obey .kept .0 ∙ l .inv .wide;
       tall = d .obey .kept .1 .0 ∙ l .inv .tall;
-      spent = omega (arith, l .inv .spent, one-left (asked d));
+      spent = omega (arith, l .inv .spent, d .obey .ensures .one, one-left (asked d));
+      few = omega (arith, l .inv .few, d .obey .ensures .few, one-left (asked d));
       same =
-          sym (onward-step (start (asked d) .args .g) (start (asked d) .args .r) (l .rest - 1) (l .count) (l .q) (d .obey .result .pane) (l .screen) (l .store) _ _
-          (d .obey .result .count) (running (asked d)) e)
+          sym (onward-step (f .geometry) (f .row) (l .rest - 1) (l .count) (l .hits) (l .q) (l .screen) (l .store)
+          (d .obey .result .count) (d .obey .result .hits) (d .obey .result .pane) _ _ (running (asked d)) e)
           ∙ from-here (asked d);
     }
 
 -- ## A spent budget
 
 same-length-5 : tie.Need-same-length-5 Inv-loop μ-loop
-same-length-5 c = c .before .loop .inv .wide
+same-length-5 c = c .before .before .loop .inv .wide
 
 same-length-6 : tie.Need-same-length-6 Inv-loop μ-loop
-same-length-6 c = c .before .loop .inv .tall
+same-length-6 c = c .before .before .loop .inv .tall
 
 returns-3 : tie.Need-returns-3 Inv-loop μ-loop
 returns-3 c =
-    let l = c .before .loop in
-    let start = c .before .before .before .before in
-    let e : l .rest ≡ 0 = omega (arith, c .loop-test .left) in
-    sym (onward-zero (start .args .g) (start .args .r) (left (l .count) (l .q) (l .screen) (l .store)))
-    ∙ ap (λ (n : ℕ). onward (start .args .g) (start .args .r) n (left (l .count) (l .q) (l .screen) (l .store))) (sym e)
-    ∙ l .inv .same
+    let l = c .before .before .loop in
+    let f = c .before .before .before .before .before .args .f in
+    let e : l .rest ≡ 0 = omega (arith, c .before .loop-test .left) in
+    let so-far = finish (l .count) (l .hits) (l .q) (l .screen) (l .store) in
+    rw (c .finish-with3 .ensures)
+    (sym (onward-zero (f .geometry) (f .row) so-far)
+    ∙ ap (λ (n : ℕ). onward (f .geometry) (f .row) n so-far) (sym e)
+    ∙ l .inv .same)
 
 pub run-spec : {M : Type 1} → statement M
 run-spec =
@@ -183,20 +201,24 @@ run-spec =
     Inv-loop
     μ-loop
     loop-holds
+    (λ c κs. search needs)
     same-length
     same-length-2
     returns
     decode-requires
     (λ c. search needs)
     (λ c κs. search needs)
+    (λ c κs. search needs)
     same-length-3
     same-length-4
     returns-2
     obey-requires
     add-count
+    add-hits
     sub-rest
     loop-less
     loop-again
+    (λ c κs. search needs)
     same-length-5
     same-length-6
     returns-3)

@@ -4,23 +4,23 @@ use borrow.Author.Needs.{needs}
 use Rattle.script.proofs.print.Statement.{statement}
 use Rattle.script.proofs.print.Tie as tie
 
-enum-told : tie.Need-enum-told
-enum-told c = search needs
-
+-- a malformed line
 returns : tie.Need-returns
 returns c = rw (c .before .before .before .before .enum-told .given .1) (c .before .before .malformed .ensures)
 
+-- a line that prints nothing
 returns-2 : tie.Need-returns-2
 returns-2 c = rw (c .enum-told2 .given .1) (Wrote-none _ _ (c .before .before .before .pre))
 
+-- a reply
 returns-3 : tie.Need-returns-3
-returns-3 c = rw (c .before .before .before .before .before .outcome .given .1) (c .before .before .reply .ensures)
+returns-3 c = rw (c .before .before .before .before .before .answer .given .1) (c .before .before .reply .ensures)
 
 pub print-spec : {M : Type 1} → statement M
 print-spec =
     tie.close
     (tie.spec
-    enum-told
+    (λ c. search needs)
     (λ c κs. search needs)
     (λ c. search needs)
     (λ c. search needs)

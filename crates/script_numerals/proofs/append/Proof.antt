@@ -1,5 +1,4 @@
--- The invariant: the bytes passed are written, and the buffer has its length. What is left of the bytes falls.
-use mathlib.Core.Path.{_≡_, refl, _∙_}
+-- The invariant: the bytes passed are written. What is left of the bytes falls.
 use Prim.Native.Nat.{_-_, _≤_, _<_}
 use native.Mathlib.Omega.{arith}
 use lib.ListN.{length, take}
@@ -11,26 +10,21 @@ use Rattle.script_numerals.proofs.append.Statement.{statement}
 use Rattle.script_numerals.proofs.append.Tie as tie
 
 abbrev Inv-loop : tie.InvT-loop
-Inv-loop out₀ at bytes end₀ i₀ out end i =
-    (i ≤ length bytes) × (length out ≡ length out₀) × Wrote out₀ at (take i bytes) out end
+Inv-loop out₀ at bytes end₀ i₀ out end i = (i ≤ length bytes) × Wrote out₀ at (take i bytes) out end
 
 abbrev μ-loop : tie.MeasureT-loop
 μ-loop out₀ at bytes end₀ i₀ out end i = length bytes - i
 
-loop-holds : tie.Need-loop-holds Inv-loop μ-loop
-loop-holds c = (omega arith, refl, Wrote-none _ _ (omega arith))
-
 loop-again : tie.Need-loop-again Inv-loop μ-loop
 loop-again c =
     let l = c .before .before .before .before .before .before in
-    let p = c .before .before .push in
-    let within : l .loop .i < length (l .before .before .before .args .bytes .now) = omega arith in
-    (omega arith, p .kept .0 ∙ l .loop .inv .1, Wrote-next _ _ within (l .loop .inv .2) (l .loop .inv .1) (p .ensures))
+    let inside : l .loop .i < length (l .before .before .before .args .bytes .now) = omega arith in
+    (omega arith, Wrote-next _ _ inside (l .loop .inv .1) (c .before .before .push .ensures))
 
 returns : tie.Need-returns Inv-loop μ-loop
 returns c =
     let passed : length (c .before .before .before .before .args .bytes .now) ≤ c .before .loop .i = omega arith in
-    rw take-all at (c .before .loop .inv .2)
+    rw take-all at (c .before .loop .inv .1)
 
 pub append-spec : {M : Type 1} → statement M
 append-spec =
@@ -38,7 +32,7 @@ append-spec =
     (tie.spec
     Inv-loop
     μ-loop
-    loop-holds
+    (λ c. (omega arith, Wrote-none _ _ (omega arith)))
     (λ c. search needs)
     (λ c κs. search needs)
     (λ c. search needs)

@@ -6,20 +6,19 @@ use Rattle.script_numerals.proofs.NumeralLaws.{coordinate-plus, coordin
 use Rattle.script_numerals.proofs.coordinate.Statement.{statement}
 use Rattle.script_numerals.proofs.coordinate.Tie as tie
 
+-- not negative
 returns : tie.Need-returns
-returns c = let d = c .before .before .before .before in rw (coordinate-plus _ (d .if1 .taken)) (c .before .before .value .ensures)
+returns c = rw (coordinate-plus _ (c .before .before .before .before .if1 .taken)) (c .before .before .value .ensures)
 
+-- negative
 returns-2 : tie.Need-returns-2
 returns-2 c =
-    let d = c .before .before .before .before .before .before in
-    let p = d .before .before .before .before in
-    let i = p .before .before in
+    let minus = c .before .before .before .before .before .before in
+    let comma = minus .before .before .before .before in
+    let sign = comma .before .before in
     rw
-    (coordinate-minus (i .before .before .args .pattern) (i .if1 .left) (omega arith))
-    (Wrote-value
-    (p .push .ensures)
-    (p .push .kept .0)
-    (Wrote-then (d .push2 .ensures) (d .push2 .kept .0) (c .before .before .decimal .ensures)))
+    (coordinate-minus (sign .before .before .args .pattern) (sign .if1 .left) (omega arith))
+    (Wrote-value (comma .push .ensures) (Wrote-then (minus .push2 .ensures) (c .before .before .decimal .ensures)))
 
 pub coordinate-spec : {M : Type 1} → statement M
 coordinate-spec =

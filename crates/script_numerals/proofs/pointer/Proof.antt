@@ -9,14 +9,13 @@ use Rattle.script_numerals.proofs.pointer.Tie as tie
 
 returns : tie.Need-returns
 returns c =
-    let d = c .before .before .before .before .before in
-    let p = d .before .before .before .before .push in
-    let small : d .before .before .before .before .before .before .before .args .n < 16 ^ 8 = omega arith in
+    let digits = c .before .before .before .before .before in
+    let comma = digits .before .before .before .before in
+    let small : comma .before .before .before .args .n < 16 ^ 8 = omega arith in
     Wrote-value
-    (p .ensures)
-    (p .kept .0)
+    (comma .push .ensures)
     (rw
-    (numeral-fewest 16 7 _ _ (omega arith) small (d .hex .ensures .1 .0), ← (d .hex .ensures .1 .1))
+    (numeral-fewest 16 7 _ _ (omega arith) small (digits .hex .ensures .1 .0), ← (digits .hex .ensures .1 .1))
     (c .before .before .append .ensures))
 
 pub pointer-spec : {M : Type 1} → statement M

@@ -5,9 +5,7 @@ use Rattle.script_numerals.proofs.value.Statement.{statement}
 use Rattle.script_numerals.proofs.value.Tie as tie
 
 returns : tie.Need-returns
-returns c =
-    let p = c .before .before .before .before .before .before .push in
-    Wrote-value (p .ensures) (p .kept .0) (c .before .before .decimal .ensures)
+returns c = Wrote-value (c .before .before .before .before .before .before .push .ensures) (c .before .before .decimal .ensures)
 
 pub value-spec : {M : Type 1} → statement M
 value-spec = tie.close (tie.spec (λ c κs. search needs) (λ c κs. search needs) (λ c. search needs) returns)

@@ -5,9 +5,7 @@ use Rattle.script_replies.proofs.malformed.Statement.{statement}
 use Rattle.script_replies.proofs.malformed.Tie as tie
 
 returns : tie.Need-returns
-returns c =
-    let p = c .before .before .before .before .before .before .push in
-    Wrote-then (p .ensures) (p .kept .0) (c .before .before .push2 .ensures)
+returns c = Wrote-then (c .before .before .before .before .before .before .push .ensures) (c .before .before .push2 .ensures)
 
 pub malformed-spec : {M : Type 1} → statement M
 malformed-spec = tie.close (tie.spec (λ c κs. search needs) (λ c κs. search needs) (λ c. search needs) returns)

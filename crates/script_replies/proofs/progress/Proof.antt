@@ -6,14 +6,9 @@ use Rattle.script_replies.proofs.progress.Tie as tie
 
 returns : tie.Need-returns
 returns c =
-    let d = c .before .before .before .before .before .before in
-    let p = d .before .before .before .before .before .value in
-    Wrote-values
-    _
-    _
-    (p .ensures)
-    (p .kept .0)
-    (Wrote-values _ _ (d .value2 .ensures) (d .value2 .kept .0) (c .before .before .pointer .ensures))
+    let fault = c .before .before .before .before .before .before in
+    let status = fault .before .before .before .before .before in
+    Wrote-values _ _ (status .value .ensures) (Wrote-values _ _ (fault .value2 .ensures) (c .before .before .pointer .ensures))
 
 pub progress-spec : {M : Type 1} → statement M
 progress-spec =

@@ -8,9 +8,9 @@ use Rattle.script_replies.proofs.reply.Tie as tie
 returns : tie.Need-returns
 unfolding replyText
 returns c =
-    let d = c .before .before .before .before .before .before in
-    let p = d .before .before .before .before .push in
-    Wrote-then (p .ensures) (p .kept .0) (Wrote-then (d .values .ensures) (d .values .kept .0) (c .before .before .push2 .ensures))
+    let values = c .before .before .before .before .before .before in
+    let letter = values .before .before .before .before in
+    Wrote-then (letter .push .ensures) (Wrote-then (values .values .ensures) (c .before .before .push2 .ensures))
 
 pub reply-spec : {M : Type 1} → statement M
 reply-spec = tie.close (tie.spec (λ c κs. search needs) (λ c κs. search needs) (λ c κs. search needs) (λ c. search needs) returns)

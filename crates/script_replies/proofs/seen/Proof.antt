@@ -9,23 +9,11 @@ returns c =
     let pick = c .before .before .before .before .before .before in
     let y = pick .before .before .before .before in
     let x = y .before .before .before .before in
-    let p = x .before .before .before .before .progress in
-    Wrote-values
-    _
-    _
-    (p .ensures)
-    (p .kept .0)
-    (Wrote-values
-    _
-    _
-    (x .coordinate .ensures)
-    (x .coordinate .kept .0)
-    (Wrote-values
-    _
-    _
-    (y .coordinate2 .ensures)
-    (y .coordinate2 .kept .0)
-    (Wrote-values _ _ (pick .flag .ensures) (pick .flag .kept .0) (c .before .before .flag2 .ensures))))
+    let first = x .before .before .before .before in
+    Wrote-values _ _ (first .progress .ensures)
+    (Wrote-values _ _ (x .coordinate .ensures)
+    (Wrote-values _ _ (y .coordinate2 .ensures)
+    (Wrote-values _ _ (pick .flag .ensures) (c .before .before .flag2 .ensures))))
 
 pub seen-spec : {M : Type 1} → statement M
 seen-spec =

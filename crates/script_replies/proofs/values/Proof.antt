@@ -4,29 +4,31 @@ use Rattle.script_numerals.proofs.WroteLaws.{Wrote-values}
 use Rattle.script_replies.proofs.values.Statement.{statement}
 use Rattle.script_replies.proofs.values.Tie as tie
 
-enum-told : tie.Need-enum-told
-enum-told c = search needs
-
+-- a refusal
 returns : tie.Need-returns
 returns c = rw (c .before .before .before .before .before .reply .given .1) (c .before .before .value .ensures)
 
+-- acceptance without values
 returns-2 : tie.Need-returns-2
 returns-2 c = rw (c .before .before .before .before .enum-told .given .1) (c .before .before .value2 .ensures)
 
+-- run
 returns-3 : tie.Need-returns-3
 returns-3 c =
-    let d = c .before .before .before .before .before .before in
-    rw (d .before .before .before .reply2 .given .1) (Wrote-values _ _ (d .value3 .ensures) (d .value3 .kept .0) (c .before .before .ran .ensures))
+    let zero = c .before .before .before .before .before .before in
+    rw (zero .before .before .before .reply2 .given .1) (Wrote-values _ _ (zero .value3 .ensures) (c .before .before .ran .ensures))
 
+-- look
 returns-4 : tie.Need-returns-4
 returns-4 c =
-    let d = c .before .before .before .before .before .before in
-    rw (d .before .before .before .reply3 .given .1) (Wrote-values _ _ (d .value4 .ensures) (d .value4 .kept .0) (c .before .before .seen .ensures))
+    let zero = c .before .before .before .before .before .before in
+    rw (zero .before .before .before .reply3 .given .1) (Wrote-values _ _ (zero .value4 .ensures) (c .before .before .seen .ensures))
 
+-- pixel and peek
 returns-5 : tie.Need-returns-5
 returns-5 c =
-    let d = c .before .before .before .before .before .before in
-    rw (d .before .before .before .reply4 .given .1) (Wrote-values _ _ (d .value5 .ensures) (d .value5 .kept .0) (c .before .before .value6 .ensures))
+    let zero = c .before .before .before .before .before .before in
+    rw (zero .before .before .before .reply4 .given .1) (Wrote-values _ _ (zero .value5 .ensures) (c .before .before .value6 .ensures))
 
 pub values-spec : {M : Type 1} → statement M
 values-spec =
@@ -35,7 +37,7 @@ values-spec =
     (λ c. search needs)
     (λ c. search needs)
     (λ c κs. search needs)
-    enum-told
+    (λ c. search needs)
     (λ c κs. search needs)
     (λ c. search needs)
     (λ c κs. search needs)

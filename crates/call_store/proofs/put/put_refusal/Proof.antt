@@ -1,4 +1,4 @@
--- Put's own refusal, as `ownRefusal` has it, by the room that is left from the address on, so that no sum can wrap.
+-- Put's own refusal, as `ownRefusal` has it, by the room that is left from the address on: no sum can wrap.
 use mathlib.Core.Path.{sym, ap, _∙_}
 use mathlib.Core.Bool.{Bool, cond}
 use Prim.Native.Nat.{_+_}
@@ -24,7 +24,7 @@ returns-2 : tie.Need-returns-2
 unfolding ownRefusal
 returns-2 c = λ p.
     let a = c .before .before .before .before .before .args in
-    c .refuse .ensures ∙ ap (λ (bad : Bool). cond bad refuseEnd 0)
+    c .number-if .ensures ∙ ap (λ (bad : Bool). cond bad refuseEnd 0)
     (ltb-room (a .row .len) (a .address) (length (now (a .bytes))) (omega arith))
 
 pub put-refusal-spec : {M : Type 1} → statement M

@@ -1,4 +1,5 @@
--- The bytes stand in the store from the address on. The invariant: the first i of them do, and the store has its length.
+-- The bytes stand in the store from the address on. The invariant: the first i of them do, and the store has
+-- its length.
 use mathlib.Core.Path.{_≡_, refl, _∙_}
 use Prim.Native.Nat.{_+_, _-_, _<_, _≤_}
 use native.Mathlib.Nat.{le-antisymm}

@@ -1,64 +1,68 @@
--- `draw_text::cells::glyph` meets its contract. The loop's invariant: the canvas is that at entry after the first j rows. A row's word is
--- read while the character is drawn, and is what it was at entry, since the descriptor lies beside the bitmap.
-use mathlib.Core.Path.{_≡_, ap, _∙_}
-use Prim.Native.Nat.{ℕ, _+_, _-_, _*_, _≤_, _<_}
+-- `draw_text::cells::glyph` meets its contract. The loop's invariant: the first rows are painted. A row's word is read while the character is
+-- drawn, and is what it was at entry, since the descriptor lies beside the bitmap.
+use mathlib.Core.Path.{_≡_, refl, ap, _∙_}
+use Prim.Native.Nat.{_+_, _-_, _*_, _<_}
 use native.Mathlib.Omega.{arith}
 use borrow.Author.Needs.{needs}
 use lib.ListN.{length}
-use Rattle.model.specs.Ranges.{listed, joined}
+use Rattle.model.specs.Ranges.{joined}
 use Rattle.model.specs.Words.{wordAt}
-use Rattle.model.specs.Coordinates.{place}
+use Rattle.model.specs.Glyphs.{heightOf, widthOf}
 use Rattle.canvas.specs.Canvas.{canvas, paintedAll}
-use Rattle.canvas.proofs.CanvasLaws.{listed-length}
-use Rattle.canvas.proofs.KeptLaws.{agree-word}
-use Rattle.canvas.proofs.TargetLaws.{ready-laid}
-use Rattle.draw_text.specs.Cells.{cellDot, rowDots}
-use Rattle.draw_text.proofs.CellLaws.{After, after-none, after-ready, after-agree, after-list, glyphDots-rows}
+use Rattle.canvas.proofs.LoopLaws.{Painting, painting-lengths, painting-ready, painting-hits, painting-list, painting-done, painting-word}
+use Rattle.draw_text.specs.declared.cells.CellRow.{CellRow}
+use Rattle.draw_text.specs.Cells.{rowDots, cellRow, firstRows}
+use Rattle.draw_text.proofs.CellLaws.{firstRows-length}
 use Rattle.draw_text.proofs.cells.glyph.Statement.{statement}
 use Rattle.draw_text.proofs.cells.glyph.Tie as tie
 
 abbrev Inv-loop : tie.InvT-loop
-Inv-loop screen₀ store₀ t transparent rotation from at head start width height hits₀ j₀ screen store hits j =
-    After t (16 * j) (joined 0 j (rowDots (t .pen) transparent rotation store₀ at (place from) width)) (canvas screen₀ store₀ start) (canvas screen store hits) × (j ≤ height)
+Inv-loop screen₀ store₀ t style at head hits width height seen₀ number₀ screen store seen number =
+    Painting t (firstRows (t .pen) style store₀ at head) (canvas screen₀ store₀ hits) (canvas screen store seen) number (heightOf head)
 
 abbrev μ-loop : tie.MeasureT-loop
-μ-loop screen₀ store₀ t transparent rotation from at head start width height hits₀ j₀ screen store hits j = height - j
+μ-loop screen₀ store₀ t style at head hits width height seen₀ number₀ screen store seen number = heightOf head - number
 
 loop-holds : tie.Need-loop-holds Inv-loop μ-loop
-unfolding joined
-loop-holds c = (after-none _ _, omega arith)
+unfolding joined paintedAll
+loop-holds c = record { drawn = refl; turn = omega arith }
 
--- row j lies in the store
+-- the entry, from the loop's head
+abbrev entry : tie.At-loop Inv-loop μ-loop → tie.Start Inv-loop μ-loop
+entry l = l .before .before .before .before .before
+
+-- the next row is one of the character's, and its word lies in the store
 module _ (c : tie.In-loop Inv-loop μ-loop) where
-  row-in : c .before .before .before .before .before .before .args .at + 2 + 2 * c .before .loop .j + 1 < length (c .before .loop .store)
-  row-in =
-      let l = c .before in
-      let start = l .before .before .before .before .before in
-      omega (
-        arith,
-        l .loop .inv .0 .tall,
-        start .pre .reach .inside (start .args .at + 2 + 2 * l .loop .j + 1) (omega arith) (omega (arith, c .loop-test .taken, l .before .height-of .ensures .0)),
-      )
+  in-height : c .before .loop .number < heightOf (entry (c .before) .args .head)
+  in-height = omega (arith, c .loop-test .taken, c .before .before .height-of .ensures .0)
+
+  row-in : entry (c .before) .args .at + 2 + 2 * c .before .loop .number + 1 < length (entry (c .before) .args .store .now)
+  row-in = let p = entry (c .before) .pre in p .reach .inside _ (omega arith) (omega (arith, in-height, p .first))
 
 add-word : tie.Need-add-word Inv-loop μ-loop
-add-word c = omega (arith, row-in (c .before), c .before .before .before .before .before .before .before .good)
+add-word c = omega (arith, row-in (c .before), entry (c .before .before) .good)
 
 add-word-2 : tie.Need-add-word-2 Inv-loop μ-loop
-add-word-2 c = omega (arith, row-in (c .before), c .before .before .before .before .before .before .before .good)
+add-word-2 c = omega (arith, row-in (c .before), entry (c .before .before) .good)
 
 word-requires : tie.Need-word-requires Inv-loop μ-loop
-word-requires c κs = row-in (c .before)
+word-requires c κs = omega (arith, row-in (c .before), painting-lengths _ (c .before .before .loop .inv) .store)
 
 glyph-row-requires : tie.Need-glyph-row-requires Inv-loop μ-loop
 glyph-row-requires c κs =
     let test = c .before .before .before .before in
     let l = test .before in
-    let start = l .before .before .before .before .before in
-    let tall = l .before .height-of .ensures .1 in (
-      after-ready (l .loop .inv .0) (start .pre .target),
-      l .before .before .width-of .ensures .1,
-      omega (arith, test .loop-test .taken, tall),
-      omega (arith, l .loop .inv .0 .few, start .pre .few, test .loop-test .taken, tall),
+    let a = entry l .args in
+    let p = entry l .pre in (
+      painting-ready _ (l .loop .inv) (p .target),
+      record { number = omega (arith, in-height test); width = l .before .before .width-of .ensures .1 },
+      omega (
+        arith,
+        painting-hits _ (l .loop .inv),
+        firstRows-length (a .t .pen) (a .style) (a .store .now) (a .at) (a .head) (l .loop .number),
+        p .few,
+        in-height test,
+      ),
     )
 
 loop-again : tie.Need-loop-again Inv-loop μ-loop
@@ -67,30 +71,26 @@ loop-again c =
     let w = d .before .before .before in
     let test = w .before .before in
     let l = test .before in
-    let start = l .before .before .before .before .before in
-    let a = start .args in
-    let j = l .loop .j in
-    let width = l .before .before .width-of .result in
-    let here : wordAt (l .loop .store) (a .at + 2 + 2 * j) ≡ wordAt (a .store .now) (a .at + 2 + 2 * j) =
-    agree-word (after-agree (l .loop .inv .0) (ready-laid (start .pre .target))) (start .pre .reach) (a .at + 2 + 2 * j) (omega arith)
-    (omega (arith, test .loop-test .taken, l .before .height-of .ensures .0)) in (
-      after-list (rowDots (a .t .pen) (a .transparent) (a .rotation) (a .store .now) (a .at) (place (a .from)) width) (l .loop .inv .0)
-          (ap (λ (b : ℕ). listed 0 width (cellDot (a .t .pen) (a .transparent) (a .rotation) (place (a .from)) width b j)) (w .word .ensures ∙ here))
-          (omega (arith, listed-length 0 width (cellDot (a .t .pen) (a .transparent) (a .rotation) (place (a .from)) width (w .word .result) j), l .before .before .width-of .ensures .1))
-          (d .glyph-row .ensures),
-      omega (arith, test .loop-test .taken),
-    )
+    let a = entry l .args in
+    let p = entry l .pre in
+    let at = a .at + 2 + 2 * l .loop .number in
+    let here : wordAt (l .loop .store) at ≡ wordAt (a .store .now) at =
+    painting-word _ (l .loop .inv) (p .target) (p .reach) at (omega arith) (omega (arith, in-height test, p .first)) in
+    painting-list (λ j. rowDots (a .t .pen) (a .style) (cellRow (a .store .now) (a .at) (widthOf (a .head)) j)) _ (l .loop .inv) (in-height test)
+    (d .glyph-row .ensures
+    ∙ ap (λ (r : CellRow). paintedAll (a .t) (rowDots (a .t .pen) (a .style) r) (canvas (l .loop .screen) (l .loop .store) (l .loop .seen)))
+    (λ n. record { number = l .loop .number; width = l .before .before .width-of .ensures .0 n; bits = (w .word .ensures ∙ here) n }))
+
+same-length : tie.Need-same-length Inv-loop μ-loop
+same-length c = painting-lengths _ (c .before .loop .inv) .screen
+
+same-length-2 : tie.Need-same-length-2 Inv-loop μ-loop
+same-length-2 c = painting-lengths _ (c .before .loop .inv) .store
 
 returns : tie.Need-returns Inv-loop μ-loop
 returns c =
     let l = c .before in
-    let start = l .before .before .before .before .before in
-    let a = start .args in
-    let e : l .loop .j ≡ l .before .height-of .result = omega (arith, l .loop .inv .1, c .loop-test .left) in
-    l .loop .inv .0 .is
-    ∙ ap (λ ds. paintedAll (a .t) ds (canvas (a .screen .now) (a .store .now) (a .start)))
-    (glyphDots-rows (a .t .pen) (a .transparent) (a .rotation) (a .store .now) (a .at) (place (a .from)) (a .head) (l .before .before .width-of .result) (l .loop .j)
-    (start .pre .first) (l .before .before .width-of .ensures .0) (e ∙ l .before .height-of .ensures .0))
+    painting-done _ (l .loop .inv) (omega (arith, l .loop .inv .turn, c .loop-test .left, l .before .height-of .ensures .0))
 
 pub glyph-spec : {M : Type 1} → statement M
 glyph-spec =
@@ -109,6 +109,6 @@ glyph-spec =
     (λ c. search needs)
     (λ c. search needs)
     loop-again
-    (λ c. search needs)
-    (λ c. search needs)
+    same-length
+    same-length-2
     returns)

@@ -1,64 +1,53 @@
--- `draw_text::cells::glyph_row` meets its contract. The loop's invariant: the canvas is that at entry after the first i cells of the row.
-use mathlib.Core.Path.{_≡_, ap, _∙_}
-use mathlib.Core.Bool.{Bool, true, false, cond}
+-- `draw_text::cells::glyph_row` meets its contract. The loop's invariant: the first i cells of the row are painted.
+use mathlib.Core.Path.{refl, ap, _∙_}
 use Prim.Native.Nat.{ℕ, _-_, _≤_}
 use native.Mathlib.Omega.{arith}
 use borrow.Author.Needs.{needs}
 use Rattle.model.specs.Ranges.{listed}
-use Rattle.model.specs.Coordinates.{Place, place, offset}
 use Rattle.model.specs.Pixels.{penSource}
 use Rattle.model.specs.Dots.{dot}
-use Rattle.model.specs.declared.Source.{Source}
-use Rattle.model.specs.Glyphs.{turned}
-use Rattle.coordinates.specs.Offsets as offsets
+use Rattle.model.proofs.Decisions.{cond-ind}
 use Rattle.canvas.specs.Canvas.{canvas, paintedAll}
-use Rattle.draw_text.specs.declared.cells.Turn.{Turn}
-use Rattle.draw_text.specs.Cells.{turnOf, fallen, cellDot}
-use Rattle.draw_text.proofs.CellLaws.{turned-fallen, After, after-none, after-ready, after-dot}
+use Rattle.canvas.specs.Targets.{placeOn}
+use Rattle.canvas.proofs.CanvasLaws.{listed-length}
+use Rattle.canvas.proofs.LoopLaws.{Painting, painting-lengths, painting-ready, painting-hits, painting-dot, painting-done}
+use Rattle.draw_text.specs.Cells.{cellDot}
 use Rattle.draw_text.proofs.cells.glyph_row.Statement.{statement}
 use Rattle.draw_text.proofs.cells.glyph_row.Tie as tie
 
 abbrev Inv-loop : tie.InvT-loop
-Inv-loop screen₀ store₀ t transparent rotation from width bits j start pen heading sideways hits₀ i₀ screen store hits i =
-    After t i (listed 0 i (cellDot (t .pen) transparent rotation (place from) width bits j)) (canvas screen₀ store₀ start) (canvas screen store hits) × (i ≤ width)
+Inv-loop screen₀ store₀ t style row hits width course pen seen₀ i₀ screen store seen i =
+    Painting t (λ k. listed 0 k (cellDot (t .pen) style row)) (canvas screen₀ store₀ hits) (canvas screen store seen) i (row .width)
 
 abbrev μ-loop : tie.MeasureT-loop
-μ-loop screen₀ store₀ t transparent rotation from width bits j start pen heading sideways hits₀ i₀ screen store hits i = width - i
+μ-loop screen₀ store₀ t style row hits width course pen seen₀ i₀ screen store seen i = row .width - i
+
+-- the entry, from the loop's head, and the head, from the place where the cell's offset along y is known
+abbrev entry : tie.At-loop Inv-loop μ-loop → tie.Start Inv-loop μ-loop
+entry l = l .before .before .before .before .before
+
+abbrev head : tie.After-either2 Inv-loop μ-loop → tie.At-loop Inv-loop μ-loop
+head y = y .before .before .before .before .before
 
 loop-holds : tie.Need-loop-holds Inv-loop μ-loop
-unfolding listed
-loop-holds c = (after-none _ _, omega arith)
-
-either-small : (b : Bool) (x y n : ℕ) → x ≤ n → y ≤ n → cond b x y ≤ n
-either-small true x y n h k = h
-either-small false x y n h k = k
+unfolding listed paintedAll
+loop-holds c = record { drawn = refl; turn = omega arith }
 
 draw-dot-requires : tie.Need-draw-dot-requires Inv-loop μ-loop
 draw-dot-requires c κs =
     let y = c .before .before in
-    let x = y .before in
-    let test = x .before .before .before in
-    let l = test .before in
-    let turn = l .before .before in
-    let sideways = turn .turn-of .result .sideways in
-    let start = turn .before .before .before .before in
-    let p = start .pre in
+    let l = head y in
     let i = l .loop .i in
-    let k : i ≤ 65536 = omega (arith, test .loop-test .taken, p .1) in
-    let m : start .args .j ≤ 65536 = omega (arith, p .2) in (
-      after-ready (l .loop .inv .0) (p .0),
-      rw (x .either .ensures) (either-small sideways (start .args .j) i 65536 m k),
-      rw (y .either2 .ensures) (either-small sideways i (start .args .j) 65536 k m),
-      omega (arith, l .loop .inv .0 .few, p .3, p .1, test .loop-test .taken),
+    let a = entry l .args in
+    let p = entry l .pre in
+    let test = y .before .before .before .before .loop-test .taken in
+    let most-i : i ≤ 65536 = omega (arith, test, p .1 .width) in
+    let most-j : a .row .number ≤ 65536 = omega (arith, p .1 .number) in (
+      painting-ready _ (l .loop .inv) (p .0),
+      rw (y .before .either .ensures) (cond-ind (λ (n : ℕ). n ≤ 65536) (a .style .sideways) (a .row .number) i (λ e. most-j) (λ e. most-i)),
+      rw (y .either2 .ensures) (cond-ind (λ (n : ℕ). n ≤ 65536) (a .style .sideways) i (a .row .number) (λ e. most-i) (λ e. most-j)),
+      omega (arith, painting-hits _ (l .loop .inv), listed-length 0 i (cellDot (a .t .pen) (a .style) (a .row)), p .2, p .1 .width, test),
     )
-
--- the dot of a cell from what the code has of it
-cell : (way : Turn) (rotation : ℕ) (p : Place) (i j kx ky : ℕ) (s s′ : Source) → way ≡ turnOf rotation
-    → kx ≡ cond (way .sideways) j i → ky ≡ cond (way .sideways) i j → s ≡ s′
-    → dot (offset p (offsets.turned (way .heading .left) kx) (offsets.turned (way .heading .up) ky)) s ≡ dot (turned rotation p i j) s′
-cell way rotation p i j kx ky s s′ w a b e =
-    (λ n. dot (offset p (offsets.turned (way .heading .left) (a n)) (offsets.turned (way .heading .up) (b n))) (e n))
-    ∙ ap (λ (v : Turn). dot (fallen v p i j) s′) w ∙ ap (λ (q : Place). dot q s′) (turned-fallen rotation p i j)
 
 loop-again : tie.Need-loop-again Inv-loop μ-loop
 loop-again c =
@@ -66,24 +55,21 @@ loop-again c =
     let y = d .before .before .before in
     let x = y .before in
     let s = x .before in
-    let b = s .before in
-    let l = b .before .before in
-    let turn = l .before .before in
-    let a = turn .before .before .before .before .args in
-    let i = l .loop .i in (
-      after-dot (cellDot (a .t .pen) (a .transparent) (a .rotation) (place (a .from)) (a .width) (a .bits) (a .j)) (l .loop .inv .0)
-          (cell (turn .turn-of .result) (a .rotation) (place (a .from)) i (a .j) _ _ _ _ (turn .turn-of .ensures) (x .either .ensures) (y .either2 .ensures)
-          (s .pen-source .ensures ∙ ap (penSource (a .t .pen) (a .transparent)) (b .bit-of .ensures)))
-          (d .draw-dot .ensures),
-      omega (arith, b .before .loop-test .taken),
-    )
+    let l = head y in
+    let a = entry l .args in
+    painting-dot (cellDot (a .t .pen) (a .style) (a .row)) _ (l .loop .inv) (s .before .before .loop-test .taken)
+    (λ n. dot (placeOn (a .style .course) (record { x = x .either .ensures n; y = y .either2 .ensures n }))
+    ((s .pen-source .ensures ∙ ap (penSource (a .t .pen) (a .style .transparent)) (s .before .bit-of .ensures)) n))
+    (d .draw-dot .ensures)
+
+same-length : tie.Need-same-length Inv-loop μ-loop
+same-length c = painting-lengths _ (c .before .loop .inv) .screen
+
+same-length-2 : tie.Need-same-length-2 Inv-loop μ-loop
+same-length-2 c = painting-lengths _ (c .before .loop .inv) .store
 
 returns : tie.Need-returns Inv-loop μ-loop
-returns c =
-    let l = c .before in
-    let a = l .before .before .before .before .before .before .args in
-    let e : l .loop .i ≡ a .width = omega (arith, l .loop .inv .1, c .loop-test .left) in
-    l .loop .inv .0 .is ∙ ap (λ (n : ℕ). paintedAll (a .t) (listed 0 n (cellDot (a .t .pen) (a .transparent) (a .rotation) (place (a .from)) (a .width) (a .bits) (a .j))) (canvas (a .screen .now) (a .store .now) (a .start))) e
+returns c = let inv = c .before .loop .inv in painting-done _ inv (omega (arith, inv .turn, c .loop-test .left))
 
 pub glyph-row-spec : {M : Type 1} → statement M
 glyph-row-spec =
@@ -91,7 +77,6 @@ glyph-row-spec =
     (tie.spec
     Inv-loop
     μ-loop
-    (λ c κs. search needs)
     loop-holds
     (λ c. search needs)
     (λ c. search needs)
@@ -103,6 +88,6 @@ glyph-row-spec =
     (λ c. search needs)
     (λ c. search needs)
     loop-again
-    (λ c. search needs)
-    (λ c. search needs)
+    same-length
+    same-length-2
     returns)

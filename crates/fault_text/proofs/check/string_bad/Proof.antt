@@ -10,23 +10,23 @@ use Rattle.fault_text.proofs.FontLaws.{baseOf-small}
 use Rattle.fault_text.proofs.check.string_bad.Statement.{statement}
 use Rattle.fault_text.proofs.check.string_bad.Tie as tie
 
-enum-told : tie.Need-enum-told
-enum-told c = search needs
-
-codes-bad-requires : tie.Need-codes-bad-requires
-codes-bad-requires c κs =
-    let start = c .before .before .before .before in
-    let told = c .before .font .given in
-    let small : baseOf (start .args .font) < addressEnd = baseOf-small (start .args .font) (start .pre .base) in
-    (start .pre .long, subst (λ (n : ℕ). n < addressEnd) (ap baseOf (told .1)) small, start .pre .small, search needs)
-
+-- no font
 returns : tie.Need-returns
 unfolding stringBad
 returns c = rw (c .enum-told .given .1)
 
+-- word mode
 returns-2 : tie.Need-returns-2
 unfolding stringBad
 returns-2 c = rw (c .before .enum-told2 .given .1) (c .array-bad .ensures)
+
+-- byte mode
+codes-bad-requires : tie.Need-codes-bad-requires
+codes-bad-requires c κs =
+    let start = c .before .before .before .before in
+    let base = ap baseOf (c .before .font .given .1) in
+    let small : baseOf (start .args .font) < addressEnd = baseOf-small (start .args .font) (start .pre .base) in
+    (start .pre .long, subst (λ (n : ℕ). n < addressEnd) base small, start .pre .small, search needs)
 
 returns-3 : tie.Need-returns-3
 unfolding stringBad offsetsBad
@@ -36,7 +36,7 @@ pub string-bad-spec : {M : Type 1} → statement M
 string-bad-spec =
     tie.close
     (tie.spec
-    enum-told
+    (λ c. search needs)
     (λ c. search needs)
     (λ c. search needs)
     (λ c κs. search needs)

@@ -18,17 +18,20 @@ unfolding callChecks
 returns-2 c = simp (sym (c .before .before .setup-refusal .ensures), eq-eqb _ 0 (c .before .if1 .left), le-leb _ _ (c .if2 .taken))
 
 element-copy-out-row : tie.Need-element-copy-out-row
-element-copy-out-row c = let v = checks-say _ _ _ _ _ (sym (c .before .before .setup-refusal .ensures) ∙ c .before .if1 .left) in let n = v .count in search needs
+element-copy-out-row c =
+    let v = checks-say _ _ _ _ _ (sym (c .before .before .setup-refusal .ensures) ∙ c .before .if1 .left) in let n = v .geometry .count in search needs
 
 element-copy-out-p : tie.Need-element-copy-out-p
-element-copy-out-p c = let v = checks-say _ _ _ _ _ (sym (c .before .before .before .setup-refusal .ensures) ∙ c .before .before .if1 .left) in let n = v .count in search needs
+element-copy-out-p c =
+    let v = checks-say _ _ _ _ _ (sym (c .before .before .before .setup-refusal .ensures) ∙ c .before .before .if1 .left) in let n =
+    v .geometry .count in search needs
 
 returns-3 : tie.Need-returns-3
 unfolding callChecks
 returns-3 c =
     let d = c .before .before .before .before .before in
     simp (sym (d .before .before .setup-refusal .ensures), eq-eqb _ 0 (d .before .if1 .left), lt-leb _ _ (d .if2 .left))
-    (c .refuse .ensures ∙ ap (λ (bad : Bool). cond bad refuseRecord 0) (c .before .pane-bad .ensures))
+    (c .number-if .ensures ∙ ap (λ (bad : Bool). cond bad refuseRecord 0) (c .before .pane-bad .ensures))
 
 pub call-refusal-spec : {M : Type 1} → statement M
 call-refusal-spec =

@@ -23,8 +23,12 @@ loop-holds c = search needs
 loop-again : tie.Need-loop-again Inv-loop μ-loop
 loop-again c =
     let l = c .before .before .before .before in
-    let r = l .before .args .r in
-    (search needs, someRow-more _ _ _ _ (λ s. sharePixel s r) (c .before .share-pixel .ensures) (l .loop .inv .1), someRow-more _ _ _ _ (λ s. shareByte s r) (c .share-byte .ensures) (l .loop .inv .2))
+    let r = l .before .args .r in (
+      search needs,
+      someRow-more _ _ _ _ (λ s. sharePixel s r) (c .before .share-pixel .ensures) (l .loop .inv .1),
+      someRow-more _ _ _ _ (λ s. shareByte s r)
+          (c .share-byte .ensures) (l .loop .inv .2),
+    )
 
 returns : tie.Need-returns Inv-loop μ-loop
 returns c = let e = le-antisymm (c .before .loop .inv .0) (c .loop-test .left) in (rw e at (c .before .loop .inv .1), rw e at (c .before .loop .inv .2))

@@ -14,7 +14,18 @@ returns : tie.Need-returns
 unfolding tableChecks
 returns c =
     let f = c .before .before .before .before .before .before .found .ensures in
-    rw (c .refuse5 .ensures, c .before .screen-bytes .ensures, c .before .before .refuse4 .ensures, c .before .before .before .refuse3 .ensures, c .before .before .before .before .refuse2 .ensures, c .before .before .before .before .before .refuse .ensures, f .rectangle, f .store, f .pixel, f .byte)
+    rw (
+      c .number-if5 .ensures,
+      c .before .screen-bytes .ensures,
+      c .before .before .number-if4 .ensures,
+      c .before .before .before .number-if3 .ensures,
+      c .before .before .before .before .number-if2 .ensures,
+      c .before .before .before .before .before .number-if .ensures,
+      f .rectangle,
+      f .store,
+      f .pixel,
+      f .byte,
+    )
 
 pub table-refusal-spec : {M : Type 1} → statement M
 table-refusal-spec =

@@ -1,0 +1,107 @@
+-- A copy as the code goes about it: cropped to the clip, then pixel by pixel, each value read from the buffer
+-- as it is then.
+use mathlib.Core.Path.{_≡_}
+use mathlib.Core.Bool.{false, cond}
+use mathlib.Core.List.{List}
+use Prim.Native.Nat.{ℕ, _+_, _≤_, _<_}
+use lib.Dec.{ltb}
+use lib.IntN.{ℤ, pos, _+ℤ_}
+use Rattle.model.specs.declared.Block.{Block}
+use Rattle.model.specs.declared.Clip.{Clip}
+use Rattle.model.specs.declared.Point.{Point}
+use Rattle.model.specs.declared.Source.the-variants.{Copied}
+use Rattle.model.specs.Coordinates.{at, between, coord}
+use Rattle.model.specs.Bitmaps.{pixels}
+use Rattle.model.specs.Dots.{dot}
+use Rattle.model.specs.Copies.{rectangleOf, blockBad}
+use Rattle.bitmaps.specs.declared.areas.Area.{Area}
+use Rattle.bitmaps.specs.Areas.{Readable}
+use Rattle.canvas.specs.Canvas.{Canvas, painted}
+use Rattle.canvas.specs.Targets.{Ready, InClip}
+use Rattle.canvas.specs.declared.Target.{Target}
+use Rattle.canvas.specs.declared.Heading.{Heading}
+use Rattle.fault_copies.specs.Sharing.{Unshared}
+use Rattle.draw_copies.specs.Steps.{steps, reversedIf}
+use Rattle.draw_copies.specs.declared.Span.{Span}
+use Rattle.draw_copies.specs.declared.Patch.{Patch}
+use Rattle.draw_copies.specs.declared.Transfer.{Transfer}
+
+-- ## Cropped to the clip
+
+-- of n columns or rows, the first at z, the span's are those from lo to hi
+pub record Cropped (lo hi : ℕ) (z : ℤ) (n : ℕ) (s : Span) : Type 0 where
+  pub most : s .skip + s .count ≤ n
+  pub before : (i : ℕ) → i < s .skip → between lo hi (z +ℤ pos i) ≡ false
+  pub behind : (i : ℕ) → s .skip + s .count ≤ i → i < n → between lo hi (z +ℤ pos i) ≡ false
+  pub is : (i : ℕ) → i < s .count → z +ℤ pos (s .skip + i) ≡ pos (s .at + i)
+  pub inside : (i : ℕ) → i < s .count → (lo ≤ s .at + i) × (s .at + i ≤ hi)
+  pub small : s .at + s .count ≤ 65536
+
+-- the patch of a block's visible columns and rows
+abbrev pub patchOf : Block → Span → Span → Patch
+patchOf b across down =
+    record {
+      sx = b .x + across .skip;
+      sy = b .y + down .skip;
+      x = across .at;
+      y = down .at;
+      wide = across .count;
+      high = down .count;
+    }
+
+-- the patch of a block that is copied to a position
+pub record Patched (clip : Clip) (from : Point) (b : Block) (p : Patch) : Type 0 where
+  pub across : Span
+  pub down : Span
+  pub columns : Cropped (clip .xmin) (clip .xmax) (coord (from .x)) (b .dx + 1) across
+  pub rows : Cropped (clip .ymin) (clip .ymax) (coord (from .y)) (b .dy + 1) down
+  pub is : p ≡ patchOf b across down
+
+-- ## Pixel by pixel
+
+-- the buffer in which an area lies
+abbrev pub bufferOf : Area → Canvas → List ℕ
+bufferOf a c = cond (a .onscreen) (c .screen) (c .store)
+
+-- a value drawn at (x,y) of the target
+abbrev pub paintedAt : Target → ℕ → ℕ → ℕ → Canvas → Canvas
+paintedAt t x y v c = painted t (dot (at (pos x) (pos y)) (Copied v)) c
+
+-- column i and row j of a transfer, its value read from the source as it is then
+unfoldable pub movedPixel : Target → Transfer → ℕ → ℕ → Canvas → Canvas
+movedPixel t m i j c =
+    paintedAt t (m .patch .x + i) (m .patch .y + j)
+    (pixels (m .source .surface) (bufferOf (m .source) c) (m .patch .sx + i) (m .patch .sy + j)) c
+
+-- row j, from the left or from the right
+unfoldable pub movedRow : Target → Transfer → ℕ → Canvas → Canvas
+movedRow t m j c = steps (λ k. movedPixel t m (reversedIf (m .order .left) (m .patch .wide) k) j) (m .patch .wide) c
+
+-- all rows, from the top or from the bottom
+unfoldable pub movedAll : Target → Transfer → Canvas → Canvas
+movedAll t m c = steps (λ k. movedRow t m (reversedIf (m .order .up) (m .patch .high) k)) (m .patch .high) c
+
+-- the order in which no pixel of a bitmap is drawn on before it is read: to the left if the copy goes to the
+-- right, up if it goes down
+abbrev pub orderOf : Patch → Heading
+orderOf p = record { left = ltb (p .sx) (p .x); up = ltb (p .sy) (p .y) }
+
+-- ## What is asked
+
+-- a transfer whose source lies in its area, and whose target lies in the clip, for buffers of these lengths
+pub record Movable (t : Target) (m : Transfer) (screen store : ℕ) : Type 0 where
+  pub ready : Ready t screen store
+  pub readable : Readable (m .source .surface) (cond (m .source .onscreen) screen store)
+  pub east : m .patch .sx + m .patch .wide ≤ m .source .surface .width
+  pub south : m .patch .sy + m .patch .high ≤ m .source .surface .height
+  pub shown : (i j : ℕ) → i < m .patch .wide → j < m .patch .high → InClip t (m .patch .x + i) (m .patch .y + j)
+  pub wide : m .patch .x + m .patch .wide ≤ 65536
+  pub high : m .patch .y + m .patch .high ≤ 65536
+  pub tall : m .patch .sy + m .patch .high ≤ 65536
+
+-- what a copy from another bitmap asks: the source can be read, and the block lies in it and shares no byte
+-- with the target
+pub record Copyable (target source : Area) (b : Block) (screen store : ℕ) : Type 0 where
+  pub readable : Readable (source .surface) (cond (source .onscreen) screen store)
+  pub within : blockBad (source .surface) (rectangleOf b) ≡ false
+  pub unshared : Unshared target source b

@@ -1,2 +1,0 @@
--- What the contracts of `drawing` cite beside model's definitions.
-pub mod Stepping

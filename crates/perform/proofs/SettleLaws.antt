@@ -1,0 +1,51 @@
+-- The record that a command leaves which draws nothing, and what no fault says of CALL and RETURN.
+use mathlib.Core.Path.{_≡_, sym, ap, subst, _∙_}
+use mathlib.Core.List.{List}
+use Prim.Native.Nat.{ℕ, _<_, _≤_}
+use native.Mathlib.Omega.{arith}
+use borrow.Author.Tests.{leb-false, eqb-false}
+use denote.Enum.Declared.{tagOf}
+use types.Run.{OneOf}
+use lib.Dec.{leb, eqb}
+use Rattle.model.specs.Numbers.{faultCall, faultReturn}
+use Rattle.model.specs.declared.Geometry.{Geometry}
+use Rattle.model.specs.declared.Row.{Row}
+use Rattle.model.specs.declared.Pane.{Pane}
+use Rattle.model.specs.declared.Command.{Command}
+use Rattle.model.specs.declared.Command.the-variants as command
+use Rattle.model.specs.Effects.{Effect, becomes, effectOf}
+use Rattle.model.specs.Faults.{faultOf}
+use Rattle.model.proofs.Command.{the-type}
+use Rattle.model.proofs.Decisions.{cond-none}
+use Rattle.perform.specs.Performing.{Settling, Settles}
+use Rattle.perform.proofs.KindLaws.{drawingTags, drawing-draws, either-effect}
+
+same-record : {e : Effect} {q q′ : Pane} → e ≡ becomes q → e ≡ becomes q′ → q ≡ q′
+same-record h k = cc
+
+-- the command d, told as c
+pub settles : (p : Pane) (next : ℕ) (d : Command) (q′ : Pane) {c : Command} {q : Pane} → c ≡ d
+    → ((g : Geometry) (r : Row) (pixelOf : ℕ → ℕ → ℕ) (store : List ℕ) → effectOf g r p pixelOf store next d ≡ becomes q′) → q ≡ q′
+    → Settles p next c q
+settles p next d q′ told is h = record {
+  is = λ g r pixelOf store q″ e. h ∙ same-record (is g r pixelOf store) (sym (ap (effectOf g r p pixelOf store next) told) ∙ e);
+}
+
+-- nothing is said of a drawing command
+pub settles-not : (p : Pane) (next : ℕ) (c : Command) (q : Pane) → OneOf drawingTags (tagOf the-type c) → Settles p next c q
+settles-not p next c q h = record { is = λ g r pixelOf store q′ e. either-effect e (drawing-draws g r p pixelOf store next c h .is) }
+
+-- ## CALL and RETURN
+
+pub call-room : {p : Pane} {a : ℕ} {c : Command} → c ≡ command.Call a → Settling p c → p .returns .count < 8
+unfolding faultOf
+call-room {p} {a} told s =
+    let e = subst (λ (d : Command). faultOf (s .geometry) (s .row) p (s .store) d ≡ 0) told (s .clear) in
+    leb-false 8 (p .returns .count) (cond-none (leb 8 (p .returns .count)) faultCall 0 tt e .0)
+
+pub return-kept : {p : Pane} {c : Command} → c ≡ command.Return → Settling p c → (0 < p .returns .count) × (p .returns .count ≤ 8)
+unfolding faultOf
+return-kept {p} told s =
+    let e = subst (λ (d : Command). faultOf (s .geometry) (s .row) p (s .store) d ≡ 0) told (s .clear) in
+    let n = eqb-false (p .returns .count) 0 (cond-none (eqb (p .returns .count) 0) faultReturn 0 tt e .0) in
+    (omega arith, s .returns)

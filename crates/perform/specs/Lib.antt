@@ -1,0 +1,2 @@
+-- What the contracts of `perform` cite beside model's definitions.
+pub mod Performing

@@ -1,0 +1,91 @@
+-- A command done on a pane: what is needed of the pane, and what the command leaves.
+use mathlib.Core.Path.{_≡_}
+use mathlib.Core.List.{List, []}
+use Prim.Native.Nat.{ℕ, _*_, _≤_}
+use lib.ListN.{length}
+use Rattle.model.specs.declared.Geometry.{Geometry}
+use Rattle.model.specs.declared.Row.{Row}
+use Rattle.model.specs.declared.Pane.{Pane}
+use Rattle.model.specs.declared.Command.{Command}
+use Rattle.model.specs.Bitmaps.{paneSurface, pixels}
+use Rattle.model.specs.Dots.{Drawing}
+use Rattle.model.specs.Effects.{becomes, draws, effectOf}
+use Rattle.model.specs.Faults.{faultOf}
+use Rattle.model.specs.Runs.{Finish, carried}
+use Rattle.model.specs.Steps.{drewPane, planOf}
+use Rattle.bitmaps.specs.Places.{Placed}
+use Rattle.refusals.specs.Good.{Good}
+use Rattle.canvas.specs.declared.Drawn.{Drawn}
+use Rattle.canvas.specs.Canvas.{canvas, Drew}
+use Rattle.canvas.specs.Targets.{targetOf}
+use Rattle.perform.specs.declared.Performed.{Performed}
+
+-- ## What is needed
+
+-- what refusals 6 to 12 leave of a pane, its screen and its store having so many bytes
+pub record Sound (g : Geometry) (r : Row) (p : Pane) (screen store : ℕ) : Type 0 where
+  pub placed : Placed g r screen store
+  pub good : Good g r p
+
+-- .. and of a command that is free of faults
+pub record Allowed (g : Geometry) (r : Row) (p : Pane) (screen : ℕ) (store : List ℕ) (c : Command) : Type 0 where
+  pub sound : Sound g r p screen (length store)
+  pub clear : faultOf g r p store c ≡ 0
+
+-- ## What is left
+
+-- commands done, pixels visible, and the record, the screen and the store that are left
+abbrev pub finish : ℕ → ℕ → Pane → List ℕ → List ℕ → Finish
+finish count hits pane screen store =
+    record { count = count; hits = hits; pane = pane; screen = screen; store = store }
+
+-- a command that is free of faults, done, the address after it being `next`
+unfoldable pub performed : Geometry → Row → Pane → ℕ → Command → List ℕ → List ℕ → Finish
+performed g r p next c screen store =
+    carried g r (planOf g r p store next (effectOf g r p (pixels (paneSurface g r) screen) store next c)) screen
+
+-- the most dots of a command: POLYLINE or SCAN_LINES with 65,535 lines of 32,769 pixels
+abbrev pub mostDots : ℕ
+mostDots = 65535 * 32769
+
+-- ## The commands that draw nothing
+
+-- free of faults, with at most eight return addresses
+pub record Settling (p : Pane) (c : Command) : Type 0 where
+  pub geometry : Geometry
+  pub row : Row
+  pub store : List ℕ
+  pub clear : faultOf geometry row p store c ≡ 0
+  pub returns : p .returns .count ≤ 8
+
+-- the record is the command's effect, if it has one on the record alone
+pub record Settles (p : Pane) (next : ℕ) (c : Command) (q : Pane) : Type 0 where
+  pub is : (g : Geometry) (r : Row) (pixelOf : ℕ → ℕ → ℕ) (store : List ℕ) (q′ : Pane)
+      → effectOf g r p pixelOf store next c ≡ becomes q′ → q ≡ q′
+
+-- ## The drawing commands, and all
+
+-- a drawing command's routine, on the pane's target: it carries out what the command draws, and draws at most
+-- so much
+pub record Carries (g : Geometry) (r : Row) (p : Pane) (c : Command) (screen store : List ℕ) (d : Drawn)
+    (screen′ store′ : List ℕ) : Type 0 where
+  pub drew : (next : ℕ) (w : Drawing) → effectOf g r p (pixels (paneSurface g r) screen) store next c ≡ draws w
+      → Drew (targetOf g r p) w (canvas screen store 0) d screen′ store′
+  pub few : d .hits ≤ mostDots
+
+-- a command done: it leaves what model says, and draws at most so much
+pub record Performs (g : Geometry) (r : Row) (p : Pane) (next : ℕ) (c : Command) (screen store : List ℕ)
+    (d : Performed) (screen′ store′ : List ℕ) : Type 0 where
+  pub leaves : finish 1 (d .hits) (d .pane) screen′ store′ ≡ performed g r p next c screen store
+  pub few : d .hits ≤ mostDots
+
+-- a command that drew nothing
+abbrev pub quietly : Pane → Performed
+quietly p = record { pane = p; hits = 0 }
+
+-- a drawing command, by what its routine answered
+abbrev pub drewOn : Pane → ℕ → Drawn → Performed
+drewOn p next d = record {
+  pane = drewPane p next (record { dots = []; position = d .position; trap = d .trap }) (d .hits);
+  hits = d .hits;
+}

@@ -1,0 +1,2 @@
+-- What the contracts of the lines before the calls cite.
+pub mod Sizes
