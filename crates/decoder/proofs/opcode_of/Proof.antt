@@ -51,98 +51,121 @@ none c =
 line-low : (op : ℕ) → 0x52 ≤ op → (op ≡ 0x52 → ⊥) → (op ≡ 0x53 → ⊥) → 0x54 ≤ op
 line-low op h f g = omega arith
 
+-- LINK
 returns : tie.Need-returns
 unfolding opcodeOf
 returns c = rw (c .match .keys1)
 
+-- NOP
 returns-2 : tie.Need-returns-2
 unfolding opcodeOf
 returns-2 c = rw (c .match .keys2)
 
+-- CALL
 returns-3 : tie.Need-returns-3
 unfolding opcodeOf
 returns-3 c = rw (c .match .keys3)
 
+-- RETURN
 returns-4 : tie.Need-returns-4
 unfolding opcodeOf
 returns-4 c = rw (c .match .keys4)
 
+-- DEF_BITMAP
 returns-5 : tie.Need-returns-5
 unfolding opcodeOf
 returns-5 c = rw (c .match .keys5)
 
+-- DEF_COLORS
 returns-6 : tie.Need-returns-6
 unfolding opcodeOf
 returns-6 c = rw (c .match .keys6)
 
+-- DEF_LOGICAL_OP
 returns-7 : tie.Need-returns-7
 unfolding opcodeOf
 returns-7 c = rw (c .match .keys7)
 
+-- ENTER_PICK
 returns-8 : tie.Need-returns-8
 unfolding opcodeOf
 returns-8 c = rw (c .match .keys8)
 
+-- EXIT_PICK
 returns-9 : tie.Need-returns-9
 unfolding opcodeOf
 returns-9 c = rw (c .match .keys9)
 
+-- DEF_CLIP_RECT
 returns-10 : tie.Need-returns-10
 unfolding opcodeOf
 returns-10 c = rw (c .match .keys10)
 
+-- DEF_SPACE
 returns-11 : tie.Need-returns-11
 unfolding opcodeOf
 returns-11 c = rw (c .match .keys11)
 
+-- DEF_CHAR_ORIENT
 returns-12 : tie.Need-returns-12
 unfolding opcodeOf
 returns-12 c = rw (c .match .keys12)
 
+-- ABS_MOV
 returns-13 : tie.Need-returns-13
 unfolding opcodeOf
 returns-13 c = rw (c .match .keys13)
 
+-- REL_MOV
 returns-14 : tie.Need-returns-14
 unfolding opcodeOf
 returns-14 c = rw (c .match .keys14)
 
+-- POINT
 returns-15 : tie.Need-returns-15
 unfolding opcodeOf
 returns-15 c = rw (c .match .keys15)
 
+-- RECT
 returns-16 : tie.Need-returns-16
 unfolding opcodeOf
 returns-16 c = rw (c .match .keys16)
 
+-- BIT_BLT
 returns-17 : tie.Need-returns-17
 unfolding opcodeOf
 returns-17 c = rw (c .match .keys17)
 
+-- POLYLINE
 returns-18 : tie.Need-returns-18
 unfolding opcodeOf
 returns-18 c = rw (c .match .keys18)
 
+-- BIT_BLT_M
 returns-19 : tie.Need-returns-19
 unfolding opcodeOf
 returns-19 c = rw (c .match .keys19)
 
+-- SCAN_LINES
 returns-20 : tie.Need-returns-20
 unfolding opcodeOf
 returns-20 c = rw (c .match .keys20)
 
+-- DEF_TEXTURE
 returns-21 : tie.Need-returns-21
 unfolding opcodeOf
 returns-21 c =
     range (λ (k : ℕ). Known (opcode.DefTexture (eqb k 0x07)) 1 ≡ opcodeOf k) 0x06 2 (refl, (refl, tt)) (c .before .before .before .args .op) (omega arith)
     (omega arith)
 
+-- DEF_CHAR_SET
 returns-22 : tie.Need-returns-22
 unfolding opcodeOf
 returns-22 c =
     range (λ (k : ℕ). Known (opcode.DefCharSet (eqb k 0x0B)) 2 ≡ opcodeOf k) 0x0A 2 (refl, (refl, tt)) (c .before .before .before .before .before .args .op)
     (omega arith) (omega arith)
 
+-- LINE
 returns-23 : tie.Need-returns-23
 unfolding opcodeOf
 returns-23 c =
@@ -150,12 +173,14 @@ returns-23 c =
     (line-low _ (c .before .if5 .left) (c .before .before .before .before .before .before .match .rest .0 .0 .0 .0 .0 .0 .1)
     (c .before .before .before .before .before .before .match .rest .0 .0 .0 .0 .0 .1)) (omega arith)
 
+-- CHAR
 returns-24 : tie.Need-returns-24
 unfolding opcodeOf
 returns-24 c =
     range (λ (k : ℕ). Known (opcode.Char (eqb (k % 2) 1)) 3 ≡ opcodeOf k) 0xA6 4 (refl, (refl, (refl, (refl, tt))))
     (c .before .before .before .before .before .before .before .before .before .args .op) (omega arith) (omega arith)
 
+-- no command: what is left below DEF_TEXTURE, and in each gap up to CHAR and above it
 returns-25 : tie.Need-returns-25
 unfolding opcodeOf
 returns-25 c = sym (opcode-of-gap listed 0 6 tt (c .before .before .args .op) (omega arith) (omega arith) (none (c .before)))
