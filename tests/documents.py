@@ -22,7 +22,7 @@ EXAMPLES = Path("examples")
 PANEL = Path("crates/panel/src/main.rt")
 
 # What the documents have now. Less means that a script, a listing or a picture is no longer found.
-LEAST = {"scripts": 32, "listings": 29, "commands": 89, "replies": 148, "pictures": 21, "paths": 50}
+LEAST = {"scripts": 35, "listings": 31, "commands": 96, "replies": 183, "pictures": 23, "paths": 50}
 counts = dict.fromkeys(LEAST, 0)
 wrong = []
 

@@ -74,6 +74,9 @@ pub enum Command {
         dx: i16,
         dy: i16,
     },
+    Circle {
+        radius: i16,
+    },
     Polyline {
         address: u32,
         count: u16,
@@ -121,6 +124,7 @@ impl Command {
             Command::Point { .. } => "POINT",
             Command::Line { .. } => "LINE",
             Command::Rect { .. } => "RECT",
+            Command::Circle { .. } => "CIRCLE",
             Command::Polyline { .. } => "POLYLINE",
             Command::ScanLines { .. } => "SCAN_LINES",
             Command::BitBlt { .. } => "BIT_BLT",
@@ -256,6 +260,9 @@ fn shape_of(opcode: u16) -> Option<Shape> {
         opcodes::RECT => (2, |words| Command::Rect {
             dx: words.signed(0),
             dy: words.signed(1),
+        }),
+        opcodes::CIRCLE => (1, |words| Command::Circle {
+            radius: words.signed(0),
         }),
         opcodes::POLYLINE => (3, |words| Command::Polyline {
             address: words.address(),

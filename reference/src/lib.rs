@@ -1,15 +1,16 @@
 //! The pane console, a second time.
 //!
-//! This is written from the paper alone, pixel by pixel and in the paper's own
+//! This is written from the papers alone, pixel by pixel and in the papers' own
 //! words, so that the proved console can be compared with it. It is made to be
 //! checked by reading, not to be fast. Each module follows one part of the
-//! paper; the sentences in quotation marks are the paper's.
+//! papers; the sentences in quotation marks are theirs.
 //!
-//! No input makes it panic: every number is bounded by the paper and every sum
+//! No input makes it panic: every number is bounded by the papers and every sum
 //! is taken in integers wide enough for it.
 
 pub mod bitmaps;
 pub mod calls;
+pub mod circles;
 pub mod copies;
 pub mod decode;
 pub mod generator;
@@ -28,6 +29,6 @@ pub mod words;
 #[derive(Clone, Copy, Debug, PartialEq, Eq)]
 pub struct Refusal(pub u32);
 
-/// Why a command was not done: 20 to 29.
+/// Why a command was not done: 20 to 30.
 #[derive(Clone, Copy, Debug, PartialEq, Eq)]
 pub struct Fault(pub u32);

@@ -26,6 +26,7 @@ pub const LINE_OPEN: u16 = 0x55;
 pub const RECT: u16 = 0x58;
 pub const BIT_BLT: u16 = 0x64;
 pub const POLYLINE: u16 = 0x74;
+pub const CIRCLE: u16 = 0x8E;
 pub const CHAR_OPAQUE: u16 = 0xA6;
 pub const CHAR_TRANSPARENT: u16 = 0xA7;
 /// Reverse video on the chip; the paper draws it as the two before.

@@ -209,6 +209,14 @@ impl Pane<'_> {
         }
     }
 
+    /// Draws the pixels "in the foreground, without pattern".
+    pub fn draw_plain(&mut self, pixels: impl Iterator<Item = (i64, i64)>) {
+        let source = Source::Colour(self.record.foreground);
+        for (x, y) in pixels {
+            self.draw(x, y, source);
+        }
+    }
+
     /// The position as whole numbers.
     pub fn position(&self) -> (i64, i64) {
         (i64::from(self.record.x), i64::from(self.record.y))

@@ -84,10 +84,11 @@ impl PaneRecord {
     /// to 29 at status 3 or not 0 elsewhere; a bitmap breaking DEF_BITMAP's
     /// rule; a clip value outside the bitmap, or not 0 without one; a font
     /// base odd or above 22 bits; an operation above 15; a path or rotation
-    /// above 3; over eight return addresses."
+    /// above 3; over eight return addresses." And "refusal 12 admits fault 30
+    /// at status 3".
     pub fn is_sound(&self, row: &Row, depth: u32) -> bool {
         let fault_sound = if self.status == FAULTED {
-            (20..=29).contains(&self.fault)
+            (20..=30).contains(&self.fault)
         } else {
             self.fault == 0
         };

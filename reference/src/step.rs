@@ -1,6 +1,7 @@
 //! One command: decoded, checked, done.
 
 use crate::bitmaps::{Bitmap, Clip};
+use crate::circles::circle_pixels;
 use crate::decode::{decode, Command, Decoded};
 use crate::glyphs::check_bytes;
 use crate::lines::{line_pixels, outline_pixels};
@@ -170,6 +171,16 @@ fn perform(pane: &mut Pane, command: Command, next: u32) -> Result<u32, Fault> {
             need_bitmap(pane)?;
             let (x, y) = pane.position();
             pane.draw_patterned(outline_pixels(x, y, i64::from(dx), i64::from(dy)));
+        }
+        // "CIRCLE … centred on the position, with the position unchanged." "A
+        // negative radius is fault 30, after 23."
+        Command::Circle { radius } => {
+            need_bitmap(pane)?;
+            if radius < 0 {
+                return Err(Fault(30));
+            }
+            let (x, y) = pane.position();
+            pane.draw_plain(circle_pixels(x, y, i64::from(radius)));
         }
         // "POLYLINE draws its N pairs as LINEs, the pattern begun anew at each."
         Command::Polyline { address, count } => {

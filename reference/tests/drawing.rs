@@ -3,6 +3,7 @@
 
 mod bench;
 use bench::*;
+use reference::circles::circle_pixels;
 use reference::glyphs::advance;
 use reference::lines::outline_pixels;
 use reference::pixels::{operate, pattern_bit};
@@ -56,6 +57,159 @@ fn outlines_are_walked() {
     }
     let far: Vec<_> = outline_pixels(-3, 7, -32768, 32767).collect();
     assert_eq!(far, walked(-3, 7, -32768, 32767));
+}
+
+/// Whether (dx,dy) is a point of a circle about (0,0), in the paper's words: the
+/// reflection of it that has 0 ≤ i ≤ j keeps the condition.
+fn on_circle(dx: i64, dy: i64, r: i64) -> bool {
+    let (i, j) = (dx.abs().min(dy.abs()), dx.abs().max(dy.abs()));
+    let rest = r * r - i * i;
+    if r == 0 {
+        (dx, dy) == (0, 0)
+    } else {
+        j * (j - 1) < rest && rest <= j * (j + 1)
+    }
+}
+
+/// All places about the centre are tried. Radius 4 has a j × (j+1) that equals
+/// r² − i².
+#[test]
+fn circles_are_all_such_points_each_once() {
+    for r in (0..=40).chain([100, 181]) {
+        let mut expected = Vec::new();
+        for dx in -r - 2..=r + 2 {
+            for dy in -r - 2..=r + 2 {
+                if on_circle(dx, dy, r) {
+                    expected.push((dx + 10, dy - 20));
+                }
+            }
+        }
+        let mut points: Vec<_> = circle_pixels(10, -20, r).collect();
+        points.sort();
+        assert_eq!(points, expected, "CIRCLE {r}");
+    }
+}
+
+#[test]
+fn the_largest_circle() {
+    let points: Vec<_> = circle_pixels(0, 0, 32767).collect();
+    assert!(points.iter().all(|&(dx, dy)| on_circle(dx, dy, 32767)));
+    let found: HashSet<_> = points.iter().copied().collect();
+    assert_eq!(found.len(), points.len());
+    // One point for each i: four on the axes, eight each, four on the diagonals.
+    for i in 0..=23170 {
+        let j = (i..=32767).rev().find(|&j| on_circle(i, j, 32767)).unwrap();
+        assert!(found.contains(&(i, j)) && found.contains(&(-j, -i)));
+    }
+    assert_eq!(points.len(), 4 + 8 * 23169 + 4);
+}
+
+/// Foreground 1 whatever the pattern, and the position stays.
+#[test]
+fn circles_use_the_foreground_alone() {
+    for texture in [[0x0600, 0x0000], [0x0700, 0x0000], [0x0700, 0x5A5A]] {
+        let mut bench = Bench::whole(7, 7, 2);
+        bench.done(&[
+            &pane_bitmap(7, 7, 2),
+            &colors(0x5555, 0xAAAA),
+            &texture,
+            &at(3, 3),
+            &[0x8E00, 3],
+            &[0x8E00, 0],
+        ]);
+        assert_eq!(bench.line(0), [0, 0, 1, 1, 1, 0, 0]);
+        assert_eq!(bench.line(1), [0, 1, 0, 0, 0, 1, 0]);
+        assert_eq!(bench.line(2), [1, 0, 0, 0, 0, 0, 1]);
+        assert_eq!(bench.line(3), [1, 0, 0, 1, 0, 0, 1]);
+        assert_eq!(bench.line(4), [1, 0, 0, 0, 0, 0, 1]);
+        assert_eq!(bench.line(5), [0, 1, 0, 0, 0, 1, 0]);
+        assert_eq!(bench.line(6), [0, 0, 1, 1, 1, 0, 0]);
+        let look = bench.look(0).unwrap();
+        assert_eq!((look.x, look.y), (3, 3));
+    }
+}
+
+/// Under exclusive or a circle draws each point once, and a second one takes it
+/// out again.
+#[test]
+fn circles_under_exclusive_or() {
+    for r in [0u16, 1, 2, 3, 5, 8] {
+        let mut bench = Bench::whole(17, 17, 1);
+        bench.done(&[
+            &pane_bitmap(17, 17, 1),
+            &colors(0xFFFF, 0),
+            &[0x4100, 0xFFFF, 6],
+            &at(8, 8),
+            &[0x8E00, r],
+        ]);
+        for y in 0..17u32 {
+            let row = bench.line(y);
+            for (x, value) in row.iter().enumerate() {
+                let drawn = on_circle(x as i64 - 8, i64::from(y) - 8, i64::from(r));
+                assert_eq!(*value, u16::from(drawn), "CIRCLE {r} x {x} y {y}");
+            }
+        }
+        bench.done(&[&[0x8E00, r]]);
+        assert!(bench.screen.iter().all(|byte| *byte == 0));
+    }
+}
+
+/// The clip and the bitmap cut a circle. Its places do not wrap: the far side
+/// of the last one would come in at column 1.
+#[test]
+fn circles_are_clipped() {
+    let mut bench = Bench::whole(6, 5, 1);
+    let bitmap = pane_bitmap(6, 5, 1);
+    bench.done(&[
+        &bitmap,
+        &colors(0xFFFF, 0),
+        &[0x4600, 1, 1, 4, 4],
+        &at(1, 2),
+        &[0x8E00, 2],
+    ]);
+    // (1 ± 2, 1 to 3) and (0 to 2, 2 ± 2), those in columns and rows 1 to 4.
+    assert_eq!(bench.line(0), [0, 0, 0, 0, 0, 0]);
+    assert_eq!(bench.line(1), [0, 0, 0, 1, 0, 0]);
+    assert_eq!(bench.line(2), [0, 0, 0, 1, 0, 0]);
+    assert_eq!(bench.line(3), [0, 0, 0, 1, 0, 0]);
+    assert_eq!(bench.line(4), [0, 1, 1, 0, 0, 0]);
+    let before = bench.screen.clone();
+    bench.done(&[&bitmap, &at(-32768, 2), &[0x8E00, 32767]]);
+    assert_eq!(bench.screen, before);
+    bench.done(&[&at(-32767, 2), &[0x8E00, 32767]]);
+    for y in 0..5 {
+        assert_eq!(bench.line(y)[0], 1);
+    }
+}
+
+/// A circle picks if some point of it is in the clip, whatever pattern, mask
+/// and operation; not if the clip is inside it or it is all outside.
+#[test]
+fn circles_pick() {
+    let picked = |clip: [u16; 5], radius: u16| {
+        let mut bench = Bench::whole(9, 9, 1);
+        bench.done(&[
+            &pane_bitmap(9, 9, 1),
+            &clip,
+            &[0x0700, 0x0000],
+            &[0x4100, 0x0000, 3],
+            &at(4, 4),
+            &[0x4400],
+            &[0x8E00, radius],
+        ]);
+        assert!(bench.screen.iter().all(|byte| *byte == 0));
+        bench.look(0).unwrap().pick
+    };
+    let whole = [0x4600, 0, 0, 8, 8];
+    assert!(picked(whole, 0));
+    assert!(picked(whole, 4));
+    assert!(picked(whole, 5));
+    assert!(!picked(whole, 7));
+    // One corner of radius 3, at (4 − 2, 4 − 2), and the pixels beside it.
+    assert!(picked([0x4600, 2, 2, 2, 2], 3));
+    assert!(!picked([0x4600, 1, 1, 1, 2], 3));
+    assert!(!picked([0x4600, 3, 2, 5, 6], 3));
+    assert!(!picked([0x4600, 4, 5, 4, 5], 0));
 }
 
 #[test]

@@ -1,4 +1,4 @@
-//! The faults 20 to 29: when each comes, in which order, and that nothing else
+//! The faults 20 to 30: when each comes, in which order, and that nothing else
 //! changes.
 
 mod bench;
@@ -72,8 +72,8 @@ fn fault_20_unknown_opcode() {
     for opcode in 0u16..=0xFF {
         let known = [
             0x02, 0x03, 0x06, 0x07, 0x0A, 0x0B, 0x0F, 0x17, 0x1A, 0x3D, 0x41, 0x44, 0x45, 0x46,
-            0x4D, 0x4E, 0x4F, 0x52, 0x53, 0x54, 0x55, 0x58, 0x64, 0x74, 0xA6, 0xA7, 0xA8, 0xA9,
-            0xAE, 0xBA,
+            0x4D, 0x4E, 0x4F, 0x52, 0x53, 0x54, 0x55, 0x58, 0x64, 0x74, 0x8E, 0xA6, 0xA7, 0xA8,
+            0xA9, 0xAE, 0xBA,
         ];
         // What is left of these words after a short command is an end word.
         let fault = fault_of(&[], &[opcode << 8 | 0xFE, 1, 1, 1, 1, 1, 1, 1, 1]);
@@ -145,12 +145,14 @@ fn fault_22_def_bitmap() {
 
 #[test]
 fn fault_23_no_bitmap() {
-    let drawing: [&[u16]; 11] = [
+    let drawing: [&[u16]; 13] = [
         &POINT,
         &[0x5400, 1, 1],
         &[0x5500, 1, 1],
         &[0x5800, 1, 1],
-        // 23 comes before 25, 29, 28, 22 and 24.
+        &[0x8E00, 1],
+        // 23 comes before 30, 25, 29, 28, 22 and 24.
+        &[0x8E00, 0xFFFF],
         &[0x7400, 1, 0, 1],
         &[0xBA00, 1, 0, 1],
         &[0x6400, 0, 0, 0xFFFF, 0],
@@ -357,6 +359,30 @@ fn faults_22_and_29_bit_blt_m() {
     assert_eq!(copy(&one_word, wide, [8, 0, 0, 1]), 29);
     assert_eq!(copy(&one_word, wide, [8, 0, 7, 0]), 0);
     assert_eq!(copy(&one_word, wide, [8, 2, 7, 1]), 0);
+}
+
+#[test]
+fn fault_30_negative_radius() {
+    let circle = |radius: u16| fault_of(&[&BITMAP, &colors(0xFFFF, 0)], &[0x8E00, radius]);
+    for radius in [0, 1, 2, 0x7FFF] {
+        assert_eq!(circle(radius), 0);
+    }
+    for radius in [0xFFFF, 0xFFFE, 0x8001, 0x8000] {
+        assert_eq!(circle(radius), 30);
+    }
+    // In pick mode, too, and where nothing can be drawn.
+    let nowhere: [&[u16]; 3] = [&BITMAP, &[0x4600, 1, 0, 0, 3], &[0x4400]];
+    assert_eq!(fault_of(&nowhere, &[0x8E00, 3]), 0);
+    assert_eq!(fault_of(&nowhere, &[0x8E00, 0xFFFD]), 30);
+    // 21 comes before it: the radius is outside the store.
+    let mut bench = Bench::whole(8, 4, 2);
+    bench.done(&[&BITMAP]);
+    bench.put_words(0x3FC, &[0x8E00, 0xFFFF]);
+    bench.start(0, 0x3FC).unwrap();
+    assert_eq!(bench.run(0, 9).unwrap().fault, 30);
+    bench.put_words(0x3FE, &[0x8E00]);
+    bench.start(0, 0x3FE).unwrap();
+    assert_eq!(bench.run(0, 9).unwrap().fault, 21);
 }
 
 #[test]

@@ -113,7 +113,7 @@ fn random_words_keep_to_their_pane() {
 
 /// The random scripts meet every command, fault and refusal that they can.
 #[test]
-fn random_scripts_cover_the_paper() {
+fn random_scripts_cover_the_papers() {
     let stats = Stats::of(Language::Panes, 150);
     for name in [
         "NOP",
@@ -135,6 +135,7 @@ fn random_scripts_cover_the_paper() {
         "POINT",
         "LINE",
         "RECT",
+        "CIRCLE",
         "POLYLINE",
         "SCAN_LINES",
         "BIT_BLT",
@@ -149,7 +150,7 @@ fn random_scripts_cover_the_paper() {
             "{name}"
         );
     }
-    for fault in 20..=29 {
+    for fault in 20..=30 {
         assert!(stats.faults.contains_key(&fault), "fault {fault}");
     }
     for refusal in [1, 2, 3, 4, 5, 6, 8, 9, 10] {

@@ -266,7 +266,7 @@ fn refusal_12_status_and_fault() {
             record.fault = 20;
         }));
     }
-    for (fault, expected) in [(0, true), (19, true), (20, false), (29, false), (30, true)] {
+    for (fault, expected) in [(0, true), (19, true), (20, false), (30, false), (31, true)] {
         assert_eq!(
             unsound(|record| {
                 record.status = 3;

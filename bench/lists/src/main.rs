@@ -68,11 +68,15 @@ fn lists() -> Vec<List> {
     for i in 0..32u16 {
         steps.extend([25, if i % 2 == 0 { 200 } else { 0xFF38 }]);
     }
+    let circle = vec![0x4F00, 500, 250, 0x8E00, 100];
     let glyph = [vec![0x0F0F], vec![0x5A3C; 16]].concat();
     vec![
         List { name: "NOP", first: vec![], again: vec![0x0300; 32], data: vec![], budget: 4_000_000 },
         List { name: "LINE", first: vec![], again: vec![0x4F00, 10, 10, 0x5400, 900, 400, 0x4F00, 900, 20, 0x5400, 0xFE00, 300], data: vec![], budget: 20_000 },
         List { name: "RECT", first: vec![], again: vec![0x4F00, 10, 10, 0x5800, 900, 400], data: vec![], budget: 2_000 },
+        List { name: "CIRCLE", first: vec![], again: circle.clone(), data: vec![], budget: 12_000 },
+        List { name: "CIRCLE, half outside the clip", first: vec![0x4600, 500, 0, 1023, 511], again: circle.clone(), data: vec![], budget: 12_000 },
+        List { name: "CIRCLE, outside the clip", first: vec![0x4600, 700, 0, 1023, 511], again: circle, data: vec![], budget: 12_000 },
         List { name: "POLYLINE", first: vec![], again: vec![0x4F00, 10, 100, 0x7400, 0x4000, 0, 32], data: vec![(0x4000, steps)], budget: 1_000 },
         List { name: "SCAN_LINES, solid", first: vec![], again: vec![0x4F00, 20, 20, 0xBA00, 0x4000, 0, 256], data: vec![(0x4000, triples.clone())], budget: 120 },
         List { name: "SCAN_LINES, hatched", first: vec![0x0700, 0xF0F0], again: vec![0x4F00, 20, 20, 0xBA00, 0x4000, 0, 256], data: vec![(0x4000, triples)], budget: 120 },

@@ -28,6 +28,7 @@ wordCount opcode.Line = 2
 wordCount opcode.Rect = 2
 wordCount opcode.BitBlt = 4
 wordCount opcode.Polyline = 3
+wordCount opcode.Circle = 1
 wordCount (opcode.Char t) = 3
 wordCount opcode.BitBltM = 8
 wordCount opcode.ScanLines = 3

@@ -45,6 +45,7 @@ pub fn opcode_of(op: u8) -> OpcodeEntry
         0x58 => OpcodeEntry::Known(Opcode::Rect, 2),
         0x64 => OpcodeEntry::Known(Opcode::BitBlt, 4),
         0x74 => OpcodeEntry::Known(Opcode::Polyline, 3),
+        0x8E => OpcodeEntry::Known(Opcode::Circle, 1),
         0xA6..=0xA9 => OpcodeEntry::Known(Opcode::Char(op % 2 == 1), 3),
         0xAE => OpcodeEntry::Known(Opcode::BitBltM, 8),
         0xBA => OpcodeEntry::Known(Opcode::ScanLines, 3),
@@ -160,6 +161,9 @@ fn command(store: &[u8], at: usize, op: Opcode) -> Command
         Opcode::Polyline => Command::Polyline {
             array: address(store, at),
             count: parameter(store, at, 2),
+        },
+        Opcode::Circle => Command::Circle {
+            radius: parameter(store, at, 0),
         },
         Opcode::Char(t) => Command::Char {
             string: address(store, at),

@@ -25,8 +25,10 @@ ghost use Rattle.model.specs.Numbers.{
   faultReturn,
   faultNoFont,
   faultCopy,
+  faultRadius,
 };
 ghost use Rattle.model.specs.Words.{addressEnd};
+ghost use Rattle.model.specs.Coordinates.{coord, negative};
 ghost use Rattle.model.specs.Bitmaps.{surfaceOf, ruleBroken};
 ghost use Rattle.model.specs.Commands.{Addressed};
 ghost use Rattle.model.specs.Copies.{rectangleOf, blockBad};
@@ -69,6 +71,9 @@ const FAULT_NO_FONT: u8 = 28;
 // "29 a copy's dx or dy negative, its source outside its bitmap, or BIT_BLT_M's source sharing a byte with
 // the active bitmap".
 const FAULT_COPY: u8 = 29;
+
+// "A negative radius is fault 30, after 23" (02, A.1).
+const FAULT_RADIUS: u8 = 30;
 
 // ---- Commands that change the record alone
 
@@ -131,6 +136,14 @@ fn array_fault(r: Row, active: Bitmap, array: u32, size: usize) -> u8
 {
     let bad = bitmaps::array_bad(r, active, array as usize, size);
     draw_fault(active, number_if(bad, FAULT_DATA, 0))
+}
+
+// CIRCLE's fault.
+fn circle_fault(active: Bitmap, radius: u16) -> u8
+    ensures { λ f. ⌜ f ≡ cond (noBitmap active) faultNoBitmap (cond (negative (coord radius)) faultRadius 0) ⌝ }
+{
+    let negative = coordinates::is_negative(radius);
+    draw_fault(active, number_if(negative, FAULT_RADIUS, 0))
 }
 
 // Whether there is no font.
@@ -235,6 +248,7 @@ pub fn fault_of(store: &[u8], f: Frame, p: Pane, c: Command) -> u8
         Command::Rect { dx: _, dy: _ } => draw_fault(active, 0),
         Command::BitBlt { block } => block_fault(f, active, block),
         Command::Polyline { array, count } => array_fault(r, active, array, 4 * (count as usize)),
+        Command::Circle { radius } => circle_fault(active, radius),
         Command::Char {
             string,
             count,

@@ -3,7 +3,7 @@ use mathlib.Core.Path.{_≡_, refl}
 use mathlib.Core.List.{List, [], _∷_}
 use Prim.Native.Nat.{ℕ}
 use Rattle.model.proofs.Computing.{machine}
-use Rattle.model.proofs.Listings.{minus, thePane, defBitmap, wordFont, byteFont, polyline, scanLines, bitBlt, bitBltM, char, bytes}
+use Rattle.model.proofs.Listings.{minus, thePane, defBitmap, wordFont, byteFont, polyline, scanLines, circle, bitBlt, bitBltM, char, bytes}
 use Rattle.model.proofs.Scripts.{Piece, piece}
 use Rattle.model.proofs.FaultCases.{Case, passes, faults, onPane, onStore, results, dues}
 
@@ -169,6 +169,14 @@ table =
     ∷ faults 29 onStore [] (bitBltM 0x62 63 0 47 0 15 0)
     -- the bitmap itself
     ∷ faults 29 onStore [] (bitBltM 0x60 15 3 0 0 0 0)
+    -- ## 30: CIRCLE (02, A.1)
+    -- a negative radius: the nearest to 0 and the farthest
+    ∷ faults 30 onPane [] (circle (minus 1))
+    ∷ faults 30 onPane [] (circle (minus 32768))
+    ∷ faults 30 onStore [] (circle (minus 3))
+    -- the least that is none, and one whose circle lies outside
+    ∷ passes onPane [] (circle 0)
+    ∷ passes onStore [] (circle 6)
     ∷ []
 
 pub draw-fault-cases : results table ≡ dues table

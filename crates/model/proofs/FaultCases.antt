@@ -11,7 +11,7 @@ use Rattle.model.specs.Setup.{paneAt}
 use Rattle.model.specs.Calls.{State, Answer, on, start, run, exec}
 use Rattle.model.proofs.Computing.{machine}
 use Rattle.model.proofs.Listings.{minus, thePane, link, call, return, defBitmap, defClipRect, wordFont, byteFont, point, line, rect, polyline, scanLines}
-use Rattle.model.proofs.Listings.{bitBlt, bitBltM, char, bytes, listing}
+use Rattle.model.proofs.Listings.{circle, bitBlt, bitBltM, char, bytes, listing}
 use Rattle.model.proofs.Scripts.{Piece, piece, laid, script, values}
 
 -- what a command comes to
@@ -122,8 +122,8 @@ onStore = defBitmap 0x60 15 3 1 ∷ []
 abbrev pub table : List Case
 table =
     -- ## 20 and 21: at the fetch
-    -- an opcode that 003 gives and that is not built (CIRCLE), and one that it does not give
-    faults 20 [] [] (0x8E00 ∷ 0x0003 ∷ [])
+    -- an opcode that 003 gives and that is not built (INCR_POINT), and one that it does not give
+    faults 20 [] [] (0xB400 ∷ 0x0060 ∷ 0x0000 ∷ 0x0000 ∷ [])
     ∷ faults 20 [] [] (0xFF00 ∷ [])
     -- a pointer that is odd, though the word there has bit 0 set
     ∷ faults 21 (link 0x71 ∷ []) (piece 0x70 (bytes (0x0101 ∷ 0x0101 ∷ [])) ∷ []) []
@@ -204,6 +204,7 @@ table =
     ∷ faults 23 [] [] (rect 1 1)
     ∷ faults 23 [] [] (bitBlt 0 0 (minus 1) 0)
     ∷ faults 23 [] [] (polyline 0x61 1)
+    ∷ faults 23 [] [] (circle (minus 1))
     ∷ faults 23 [] [] (scanLines 0x61 1)
     ∷ faults 23 [] [] (char 0x61 1)
     ∷ faults 23 [] [] (bitBltM 0x61 0 0 0 0 (minus 1) 0)

@@ -7,6 +7,8 @@ pub mod PartLaws
 pub mod PixelLaws
 pub mod DotLaws
 pub mod OutlineLaws
+pub mod CirclePointLaws
+pub mod CircleLaws
 pub mod CodeLaws
 pub mod SetupLaws
 pub mod CallLaws
@@ -21,6 +23,7 @@ pub mod Pictures
 pub mod Figures
 pub mod Example
 pub mod LinePictures
+pub mod CirclePictures
 pub mod PenPictures
 pub mod CopyPictures
 pub mod CharPictures

@@ -99,6 +99,10 @@ rect dx dy = 0x5800 ∷ dx ∷ dy ∷ []
 abbrev pub polyline : ℕ → ℕ → List ℕ
 polyline a n = 0x7400 ∷ low a ∷ high a ∷ n ∷ []
 
+-- radius
+abbrev pub circle : ℕ → List ℕ
+circle radius = 0x8E00 ∷ radius ∷ []
+
 -- address and number of triples
 abbrev pub scanLines : ℕ → ℕ → List ℕ
 scanLines a n = 0xBA00 ∷ low a ∷ high a ∷ n ∷ []

@@ -8,6 +8,7 @@ use native.Mathlib.Omega.{arith}
 use native.Mathlib.Decide.{ℕ-discrete}
 use lib.Dec.{T, eqb, eqb·suc-zero, ltb, eqb→eq, eqb-refl, ltb→lt, lt→ltb}
 use lib.IntN.{ℤ, pos, negsuc, negℤ, natAbs, _+ℤ_, _-ℤ_, subℕ, +ℤ-comm, +ℤ-assoc, +ℤ-idr, +ℤ-negℤ-cancel}
+use lib.ListN.{length}
 use Rattle.model.specs.Ranges.{listed}
 use Rattle.model.specs.Coordinates.{Place, at, offset, signAs, same, samePlace}
 use Rattle.model.specs.Dots.{keep}
@@ -18,7 +19,7 @@ use Rattle.model.proofs.DotLaws.{listed-last}
 -- ## A list walked
 
 -- what was seen after a list
-passed : List Place → List Place → List Place
+unfoldable pub passed : List Place → List Place → List Place
 passed [] seen = seen
 passed (q ∷ qs) seen = passed qs (q ∷ seen)
 
@@ -26,24 +27,34 @@ keep-append : (t : Bool) (q : Place) (l m : List Place) → keep t q l ++ m ≡ 
 keep-append true q l m = refl
 keep-append false q l m = refl
 
-once-append : (l m seen : List Place) → once seen (l ++ m) ≡ once seen l ++ once (passed l seen) m
+pub once-append : (l m seen : List Place) → once seen (l ++ m) ≡ once seen l ++ once (passed l seen) m
 unfolding once passed
 once-append [] m seen = refl
 once-append (q ∷ l) m seen =
     ap (keep (cond (visited q seen) false true) q) (once-append l m (q ∷ seen)) ∙ sym (keep-append (cond (visited q seen) false true) q _ _)
 
-once-skip : (q : Place) (l seen : List Place) → visited q seen ≡ true → once seen (q ∷ l) ≡ once (q ∷ seen) l
+pub once-length : (seen l : List Place) → length (once seen l) ≤ length l
+unfolding once
+once-length seen [] = omega arith
+once-length seen (p ∷ ps) =
+    omega (arith, keep-length (cond (visited p seen) false true) p (once (p ∷ seen) ps), once-length (p ∷ seen) ps)
+  where
+    keep-length : (t : Bool) (q : Place) (l : List Place) → length (keep t q l) ≤ suc (length l)
+    keep-length true q l = omega arith
+    keep-length false q l = omega arith
+
+pub once-skip : (q : Place) (l seen : List Place) → visited q seen ≡ true → once seen (q ∷ l) ≡ once (q ∷ seen) l
 unfolding once
 once-skip q l seen e = rw e refl
 
-once-take : (q : Place) (l seen : List Place) → visited q seen ≡ false → once seen (q ∷ l) ≡ q ∷ once (q ∷ seen) l
+pub once-take : (q : Place) (l seen : List Place) → visited q seen ≡ false → once seen (q ∷ l) ≡ q ∷ once (q ∷ seen) l
 unfolding once
 once-take q l seen e = rw e refl
 
-or-left : (s t : Bool) → s ≡ true → (s || t) ≡ true
+pub or-left : (s t : Bool) → s ≡ true → (s || t) ≡ true
 or-left s t e = rw e refl
 
-or-none : (s t : Bool) → s ≡ false → t ≡ false → (s || t) ≡ false
+pub or-none : (s t : Bool) → s ≡ false → t ≡ false → (s || t) ≡ false
 or-none s t e f = rw (e, f) refl
 
 still : (q : Place) (l seen : List Place) → visited q seen ≡ true → visited q (passed l seen) ≡ true
@@ -92,7 +103,7 @@ once-old (suc n) i f seen h =
 
 -- ## Whole numbers
 
-same-true : (m n : ℤ) → same m n ≡ true → m ≡ n
+pub same-true : (m n : ℤ) → same m n ≡ true → m ≡ n
 same-true (pos m) (pos n) e = ap pos (eqb→eq m n (subst T (sym e) tt))
 same-true (pos m) (negsuc n) e = absurd (subst T (sym e) tt)
 same-true (negsuc m) (pos n) e = absurd (subst T (sym e) tt)
@@ -102,7 +113,7 @@ is-true : (t : Bool) → T t → t ≡ true
 is-true true h = refl
 is-true false h = absurd h
 
-same-refl : (z : ℤ) → same z z ≡ true
+pub same-refl : (z : ℤ) → same z z ≡ true
 same-refl (pos n) = is-true (eqb n n) (eqb-refl n)
 same-refl (negsuc n) = is-true (eqb n n) (eqb-refl n)
 
@@ -129,7 +140,7 @@ whole-sign : (d : ℤ) → d ≡ signAs d (natAbs d)
 whole-sign (pos d) = refl
 whole-sign (negsuc d) = refl
 
-abs-neg : (d : ℤ) → natAbs (negℤ d) ≡ natAbs d
+pub abs-neg : (d : ℤ) → natAbs (negℤ d) ≡ natAbs d
 abs-neg (pos zero) = refl
 abs-neg (pos (suc n)) = refl
 abs-neg (negsuc n) = refl

@@ -78,15 +78,17 @@ table =
     ∷ refused (at 4 0)
     ∷ refused (at 4 20)
     ∷ refused (at 255 0)
-    -- ## "a fault outside 20 to 29 at status 3 or not 0 elsewhere"
+    -- ## "a fault outside 20 to 29 at status 3 or not 0 elsewhere"; "refusal 12 admits fault 30 at status 3" (02, A.1)
     ∷ refused (at 3 0)
     ∷ refused (at 3 19)
     ∷ taken (at 3 20)
     ∷ taken (at 3 29)
-    ∷ refused (at 3 30)
+    ∷ taken (at 3 30)
+    ∷ refused (at 3 31)
     ∷ refused (at 0 20)
     ∷ refused (at 1 1)
     ∷ refused (at 2 29)
+    ∷ refused (at 1 30)
     -- ## "a bitmap breaking DEF_BITMAP's rule"
     -- the pane, with values for another row or depth
     ∷ taken (onPane (clip 0 0 6 4))

@@ -64,6 +64,7 @@ opcodes =
     -- source x, y, dx, dy
     ∷ entry 0x64 (Do (command.BitBlt (blockOf 0x1001 0xFFC2 3 4)) 10)
     ∷ entry 0x74 (Do (command.Polyline 0x21001 3) 8)
+    ∷ entry 0x8E (Do (command.Circle 0x1001) 4)
     -- string, number; opaque, transparent, and both once more
     ∷ entry 0xA6 (Do (command.Char 0x21001 3 false) 8)
     ∷ entry 0xA7 (Do (command.Char 0x21001 3 true) 8)

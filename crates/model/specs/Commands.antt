@@ -21,7 +21,8 @@ abbrev pub from : ℕ → ℕ → ℕ → Bool
 from a e op = leb a op && leb op e
 
 -- the opcodes of 003 that are built, each with its number of parameter words; "Every other opcode is
--- unknown". 06, 0A and A6, A8 are opaque or word mode, 07, 0B and A7, A9 transparent or byte mode
+-- unknown". 06, 0A and A6, A8 are opaque or word mode, 07, 0B and A7, A9 transparent or byte mode. CIRCLE
+-- "joins the commands" (02, A.1)
 unfoldable pub opcodeOf : ℕ → OpcodeEntry
 opcodeOf op =
     cond (eqb op 0x02) (Known opcode.Link 2)
@@ -45,10 +46,11 @@ opcodeOf op =
     (cond (eqb op 0x58) (Known opcode.Rect 2)
     (cond (eqb op 0x64) (Known opcode.BitBlt 4)
     (cond (eqb op 0x74) (Known opcode.Polyline 3)
+    (cond (eqb op 0x8E) (Known opcode.Circle 1)
     (cond (from 0xA6 0xA9 op) (Known (opcode.Char (eqb (op % 2) 1)) 3)
     (cond (eqb op 0xAE) (Known opcode.BitBltM 8)
     (cond (eqb op 0xBA) (Known opcode.ScanLines 3)
-    Unknown)))))))))))))))))))))))
+    Unknown))))))))))))))))))))))))
 
 -- parameter word i, from 0, of the command at an address
 abbrev pub parameter : List ℕ → ℕ → ℕ → ℕ
@@ -81,6 +83,7 @@ commandOf opcode.Line w = command.Line (w 0) (w 1)
 commandOf opcode.Rect w = command.Rect (w 0) (w 1)
 commandOf opcode.BitBlt w = command.BitBlt (blockOf (w 0) (w 1) (w 2) (w 3))
 commandOf opcode.Polyline w = command.Polyline (address (w 0) (w 1)) (w 2)
+commandOf opcode.Circle w = command.Circle (w 0)
 commandOf (opcode.Char t) w = command.Char (address (w 0) (w 1)) (w 2) t
 commandOf opcode.BitBltM w = command.BitBltM (address (w 0) (w 1)) (w 2) (w 3) (blockOf (w 4) (w 5) (w 6) (w 7))
 commandOf opcode.ScanLines w = command.ScanLines (address (w 0) (w 1)) (w 2)

@@ -2,6 +2,7 @@
 use Prim.Native.Nat.{ℕ, _+_, _-_, _/_, _%_}
 use mathlib.Core.List.{List}
 use mathlib.Core.Bool.{Bool, true, false}
+use lib.IntN.{natAbs}
 use lib.ListN.{getD, set}
 use Rattle.model.specs.Ranges.{listed}
 use Rattle.model.specs.Coordinates.{coord, moved}
@@ -12,6 +13,7 @@ use Rattle.model.specs.Record.{withOrientation, withFont, withPicking}
 use Rattle.model.specs.declared.Font.the-variants as font
 use Rattle.model.specs.Dots.{Drawing}
 use Rattle.model.specs.Lines.{line, pointAt, rectangle, pairsAt, polyline, triplesAt, scanLines}
+use Rattle.model.specs.Circles.{circle}
 use Rattle.model.specs.Copies.{rectangleOf, seen, copy}
 use Rattle.model.specs.Glyphs.{descriptor, string}
 use Rattle.model.specs.Commands.{Command}
@@ -86,6 +88,9 @@ effectOf g r p pixelOf store next (command.Rect dx dy) =
 effectOf g r p pixelOf store next (command.BitBlt b) =
     draws (copy (seen g r pixelOf store (p .bitmap)) (p .text .spacing) (p .position) (rectangleOf b))
 effectOf g r p pixelOf store next (command.Polyline a n) = draws (polyline (p .pen) (p .position) (pairsAt store a n))
+-- a radius is not negative where there is no fault
+effectOf g r p pixelOf store next (command.Circle radius) =
+    draws (circle (p .pen) (p .position) (natAbs (coord radius)))
 -- "transparency is that of CHAR's opcode where section 2.10.6 gives one"
 effectOf g r p pixelOf store next (command.Char a n t) =
     draws (string (p .pen) t (p .text) store (p .position) (listed 0 n (descriptor (p .text .font) store a)))

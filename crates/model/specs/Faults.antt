@@ -7,8 +7,9 @@ use lib.Dec.{ltb, leb, eqb}
 use lib.ListN.{getD}
 use Rattle.model.specs.Ranges.{anyBelow}
 use Rattle.model.specs.Numbers.{faultBitmap, faultNoBitmap, faultClip, faultData, faultCall, faultReturn}
-use Rattle.model.specs.Numbers.{faultNoFont, faultCopy}
+use Rattle.model.specs.Numbers.{faultNoFont, faultCopy, faultRadius}
 use Rattle.model.specs.Words.{wordAt}
+use Rattle.model.specs.Coordinates.{coord, negative}
 use Rattle.model.specs.Bitmaps.{Geometry, Row, Bitmap, surfaceOf, bitmapOf, ruleBroken, touches}
 use Rattle.model.specs.declared.Bitmap.the-variants as bitmap
 use Rattle.model.specs.Record.{Pane, Clip, Font}
@@ -119,6 +120,8 @@ faultOf g r p store (command.BitBlt b) =
     drawFault p (cond (blockBad (surfaceOf g r (p .bitmap)) (rectangleOf b)) faultCopy 0)
 -- pairs of words
 faultOf g r p store (command.Polyline a n) = drawFault p (cond (arrayBad r (p .bitmap) a (4 * n)) faultData 0)
+-- "A negative radius is fault 30, after 23" (02, A.1)
+faultOf g r p store (command.Circle radius) = drawFault p (cond (negative (coord radius)) faultRadius 0)
 faultOf g r p store (command.Char a n t) =
     drawFault p (cond (noFont (p .text .font)) faultNoFont
     (cond (stringBad r (p .bitmap) store (p .text .font) a n

@@ -1,4 +1,5 @@
--- Paper 01 as definitions, in its order. A comment in quotes is the sentence that the definition states.
+-- Paper 01 as definitions, in its order, with the requests of paper 02 that are built. A comment in quotes is
+-- the sentence that the definition states.
 pub mod Ranges
 pub mod Numbers
 pub mod Words
@@ -9,6 +10,7 @@ pub mod Operations
 pub mod Pixels
 pub mod Dots
 pub mod Lines
+pub mod Circles
 pub mod Copies
 pub mod Glyphs
 pub mod Commands

@@ -58,6 +58,10 @@ faultNoFont = 28
 abbrev pub faultCopy : ℕ
 faultCopy = 29
 
+-- "A negative radius is fault 30" (02, A.1)
+abbrev pub faultRadius : ℕ
+faultRadius = 30
+
 -- ## Refusals
 
 -- "1 no such pane"

@@ -74,11 +74,12 @@ checks g count rows screen stores =
 
 -- ## 12
 
--- "a status above 3; a fault outside 20 to 29 at status 3 or not 0 elsewhere"
+-- "a status above 3; a fault outside 20 to 29 at status 3 or not 0 elsewhere"; "refusal 12 admits fault 30 at
+-- status 3" (02, A.1)
 unfoldable pub progressBad : Progress → Bool
 progressBad p =
     ltb statusFaulted (p .status)
-    || ((eqb (p .status) statusFaulted && outOf 20 29 (p .fault)) ||
+    || ((eqb (p .status) statusFaulted && outOf 20 30 (p .fault)) ||
     (not (eqb (p .status) statusFaulted) && not (eqb (p .fault) 0)))
 
 -- "a font base odd or above 22 bits"

@@ -1,6 +1,8 @@
 // The plain data of the pane console that all crates share: structs and enums by value. What they mean is
-// stated in specs/, in the order of the paper. The one function does nothing: its contract is the theorem
-// over the bench figures.
+// stated in specs/, in the order of the paper. The two functions do nothing: their contracts are the theorem
+// over the bench figures and that over CIRCLE's points.
+ghost use Prim.Native.Nat.{ℕ};
+ghost use Rattle.model.specs.Circles.{CirclePoints};
 ghost use Rattle.model.specs.Figures.{All, table};
 
 // ---- Screen, panes, stores
@@ -158,6 +160,7 @@ pub enum Opcode {
     Rect,
     BitBlt,
     Polyline,
+    Circle,
     Char(bool),
     BitBltM,
     ScanLines,
@@ -250,6 +253,9 @@ pub enum Command {
         array: u32,
         count: u16,
     },
+    Circle {
+        radius: u16,
+    },
     Char {
         string: u32,
         count: u16,
@@ -326,4 +332,12 @@ pub enum Reply {
 // Does nothing. Its contract is the theorem over the table of P1 to P12, so that no check passes without it.
 pub fn figures_hold()
     ensures { λ r. ⌜ All table ⌝ }
+{}
+
+// ---- CIRCLE's points
+
+// Does nothing. Its contract is that CIRCLE's points are all those of its definition and no others, each once,
+// so that no check passes without it.
+pub fn circles_hold()
+    ensures { λ r. ⌜ ((radius : ℕ) → CirclePoints radius) ⌝ }
 {}

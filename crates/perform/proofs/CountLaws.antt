@@ -1,6 +1,6 @@
 -- How many dots a command draws: no more than `mostDots`, from the definitions of what each draws.
 use mathlib.Core.Path.{_≡_, refl, ap}
-use mathlib.Core.Bool.{Bool, true, false, cond}
+use mathlib.Core.Bool.{Bool}
 use mathlib.Core.List.{List, [], _∷_}
 use Prim.Native.Nat.{ℕ, zero, suc, _+_, _*_, _≤_, suc-le-suc}
 use native.Mathlib.Nat.{mul-le-mul-right}
@@ -14,11 +14,13 @@ use Rattle.model.specs.declared.Block.{Block}
 use Rattle.model.specs.Ranges.{listed}
 use Rattle.model.specs.Words.{wordAt}
 use Rattle.model.specs.Coordinates.{Place, coord, index, offset, signAs, place, moved}
-use Rattle.model.specs.Dots.{keep}
-use Rattle.model.specs.Lines.{Pair, Triple, major, lineDots, line, pointAt, polyline, scanLines, walk, alongX, alongY, visited, once, patterned, rectangle}
+use Rattle.model.specs.Lines.{Pair, Triple, major, lineDots, line, pointAt, polyline, scanLines, walk, alongX, alongY, once, patterned, rectangle}
 use Rattle.model.specs.Lines.{pairsAt, triplesAt}
+use Rattle.model.specs.Circles.{circle}
 use Rattle.model.specs.Copies.{rectangleOf, copyDots, copy}
 use Rattle.model.specs.Glyphs.{heightOf, widthOf, glyphDots, passed, string}
+use Rattle.model.proofs.OutlineLaws.{once-length}
+use Rattle.model.proofs.CircleLaws.{circle-length}
 use Rattle.coordinates.proofs.SignedLaws.{natAbs-coord, natAbs-negate, index-coord}
 use Rattle.canvas.proofs.CanvasLaws.{listed-length, joined-length}
 use Rattle.perform.specs.Performing.{mostDots}
@@ -88,16 +90,6 @@ module _ (pen : Pen) (p : Point) (store : List ℕ) (a n : ℕ) (h : n ≤ 65535
 
 -- ## RECT
 
-keep-length : {A : Type 0} (b : Bool) (a : A) (l : List A) → length (keep b a l) ≤ suc (length l)
-keep-length true a l = omega arith
-keep-length false a l = omega arith
-
-once-length : (seen l : List Place) → length (once seen l) ≤ length l
-unfolding once
-once-length seen [] = omega arith
-once-length seen (p ∷ ps) =
-    omega (arith, keep-length (cond (visited p seen) false true) p (once (p ∷ seen) ps), once-length (p ∷ seen) ps)
-
 patterned-length : (pen : Pen) (i : ℕ) (l : List Place) → length (patterned pen i l) ≡ length l
 unfolding patterned
 patterned-length pen i [] = refl
@@ -117,6 +109,11 @@ unfolding rectangle
 rectangle-few pen p dx dy =
     let l = walk (place p) (coord dx) (coord dy) in
     omega (arith, patterned-length pen 0 (once [] l), once-length [] l, walk-length (place p) (coord dx) (coord dy) (natAbs-coord dx) (natAbs-coord dy))
+
+-- ## CIRCLE
+
+pub circle-few : (pen : Pen) (p : Point) (radius : ℕ) → length (circle pen p (natAbs (coord radius)) .dots) ≤ mostDots
+circle-few pen p radius = omega (arith, circle-length pen p (natAbs (coord radius)), natAbs-coord radius)
 
 -- ## Copies
 

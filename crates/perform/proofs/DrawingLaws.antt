@@ -4,6 +4,7 @@ use mathlib.Core.Bool.{Bool, false, cond, _||_}
 use mathlib.Core.List.{List}
 use Prim.Native.Nat.{ℕ, _*_, _≤_}
 use native.Mathlib.Omega.{arith}
+use lib.IntN.{natAbs}
 use lib.ListN.{length}
 use denote.Enum.Declared.{tagOf}
 use types.Run.{OneOf, hit}
@@ -19,6 +20,7 @@ use Rattle.model.specs.Dots.{Drawing}
 use Rattle.model.specs.Ranges.{listed}
 use Rattle.model.specs.Coordinates.{coord, moved}
 use Rattle.model.specs.Lines.{line, pointAt, rectangle, pairsAt, polyline, triplesAt, scanLines}
+use Rattle.model.specs.Circles.{circle}
 use Rattle.model.specs.Copies.{rectangleOf, seen, copy, blockBad}
 use Rattle.model.specs.Glyphs.{descriptor, string}
 use Rattle.model.specs.Faults.{noBitmap, noFont, arrayBad, stringBad, descriptorsBad, sourceBitmap, faultOf}
@@ -42,7 +44,7 @@ use Rattle.draw_text.proofs.LegibleLaws.{char-legible}
 use Rattle.perform.specs.Performing.{Allowed, Carries, mostDots}
 use Rattle.perform.proofs.KindLaws.{drawingTags, recordTags, drawing-draws, record-changes, drawFault-none, either-effect}
 use Rattle.perform.proofs.ReadyLaws.{ready-of}
-use Rattle.perform.proofs.CountLaws.{point-few, line-few, polyline-few, scanLines-few, rectangle-few, copy-few, string-few}
+use Rattle.perform.proofs.CountLaws.{point-few, line-few, polyline-few, scanLines-few, rectangle-few, circle-few, copy-few, string-few}
 
 -- ## What no fault says; k is the command, told as c
 
@@ -103,7 +105,7 @@ module _ {g : Geometry} {r : Row} {p : Pane} {screen : ℕ} {store : List ℕ} {
         let bad = stringBad r (p .bitmap) store (p .text .font) a n || descriptorsBad r (p .bitmap) store (p .text .font) a n in
         let readable = cond-none bad _ _ tt (cond-none (noFont (p .text .font)) _ _ tt (drawFault-none p _ (clear-as told) .1) .1) .0 in
         record {
-          target = drawing-ready told (hit drawingTags 21 tt);
+          target = drawing-ready told (hit drawingTags 22 tt);
           oriented = record { path = omega (arith, text .path); rotation = omega (arith, text .rotation) };
           legible =
               subst (λ (z : Target). Legible z (p .text .font) store a n) (sym aim)
@@ -153,6 +155,13 @@ module _ (g : Geometry) (r : Row) (p : Pane) (screen store : List ℕ) (d : Draw
     unfolding effectOf targetOf
     rect-carries {dx} {dy} told =
         carries (λ t. rectangle (t .pen) (p .position) (coord dx) (coord dy)) _ aim told (λ next. refl) (rectangle-few _ _ dx dy)
+
+    pub circle-carries : {radius : ℕ} → c ≡ command.Circle radius
+        → Drew t (circle (t .pen) (p .position) (natAbs (coord radius))) (canvas screen store 0) d screen′ store′
+        → Carries g r p c screen store d screen′ store′
+    unfolding effectOf targetOf
+    circle-carries {radius} told =
+        carries (λ t. circle (t .pen) (p .position) (natAbs (coord radius))) _ aim told (λ next. refl) (circle-few _ _ radius)
 
     pub polyline-carries : {a n : ℕ} → c ≡ command.Polyline a n → n ≤ 65535
         → Drew t (polyline (t .pen) (p .position) (pairsAt store a n)) (canvas screen store 0) d screen′ store′

@@ -20,7 +20,7 @@ use Rattle.model.proofs.Command.{the-type}
 use Rattle.model.proofs.Decisions.{cond-none}
 
 abbrev pub drawingTags : List ℕ
-drawingTags = 16 ∷ 17 ∷ 18 ∷ 19 ∷ 20 ∷ 21 ∷ 22 ∷ 23 ∷ []
+drawingTags = 16 ∷ 17 ∷ 18 ∷ 19 ∷ 20 ∷ 21 ∷ 22 ∷ 23 ∷ 24 ∷ []
 
 abbrev pub recordTags : List ℕ
 recordTags = 0 ∷ 1 ∷ 2 ∷ 3 ∷ 4 ∷ 5 ∷ 6 ∷ 7 ∷ 8 ∷ 9 ∷ 10 ∷ 11 ∷ 12 ∷ 13 ∷ 14 ∷ 15 ∷ []
@@ -64,6 +64,7 @@ module _ (g : Geometry) (r : Row) (p : Pane) (pixelOf : ℕ → ℕ → ℕ) (st
   drawing-draws (command.Rect a b) h = record { drawing = _; is = refl; active = λ e. drawFault-none p _ e .0 }
   drawing-draws (command.BitBlt a) h = record { drawing = _; is = refl; active = λ e. drawFault-none p _ e .0 }
   drawing-draws (command.Polyline a b) h = record { drawing = _; is = refl; active = λ e. drawFault-none p _ e .0 }
+  drawing-draws (command.Circle a) h = record { drawing = _; is = refl; active = λ e. drawFault-none p _ e .0 }
   drawing-draws (command.Char a b d) h = record { drawing = _; is = refl; active = λ e. drawFault-none p _ e .0 }
   drawing-draws (command.BitBltM a b d e) h = record { drawing = _; is = refl; active = λ e. drawFault-none p _ e .0 }
   drawing-draws (command.ScanLines a b) h = record { drawing = _; is = refl; active = λ e. drawFault-none p _ e .0 }
@@ -91,9 +92,10 @@ module _ (g : Geometry) (r : Row) (p : Pane) (pixelOf : ℕ → ℕ → ℕ) (st
   record-changes (command.Rect a b) h = absurd (miss recordTags 18 tt h)
   record-changes (command.BitBlt a) h = absurd (miss recordTags 19 tt h)
   record-changes (command.Polyline a b) h = absurd (miss recordTags 20 tt h)
-  record-changes (command.Char a b d) h = absurd (miss recordTags 21 tt h)
-  record-changes (command.BitBltM a b d e) h = absurd (miss recordTags 22 tt h)
-  record-changes (command.ScanLines a b) h = absurd (miss recordTags 23 tt h)
+  record-changes (command.Circle a) h = absurd (miss recordTags 21 tt h)
+  record-changes (command.Char a b d) h = absurd (miss recordTags 22 tt h)
+  record-changes (command.BitBltM a b d e) h = absurd (miss recordTags 23 tt h)
+  record-changes (command.ScanLines a b) h = absurd (miss recordTags 24 tt h)
 
 -- no effect is both
 pub either-effect : {A : Type 0} {e : Effect} {q : Pane} {w : Drawing} → e ≡ becomes q → e ≡ draws w → A

@@ -23,6 +23,7 @@ pub fn draw(screen: &mut [u8], store: &mut [u8], f: Frame, p: Pane, c: Command) 
         Command::Point { dx, dy } => draw_lines::point(screen, store, t, from, dx, dy),
         Command::Line { dx, dy } => draw_lines::line(screen, store, t, from, dx, dy),
         Command::Rect { dx, dy } => draw_outlines::rect(screen, store, t, from, dx, dy),
+        Command::Circle { radius } => draw_circles::circle(screen, store, t, from, radius),
         Command::Polyline { array, count } => {
             draw_arrays::polyline(screen, store, t, from, array as usize, count as usize)
         }

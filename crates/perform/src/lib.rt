@@ -64,6 +64,7 @@ pub fn perform(
         | Command::Rect { dx: _, dy: _ }
         | Command::BitBlt { block: _ }
         | Command::Polyline { array: _, count: _ }
+        | Command::Circle { radius: _ }
         | Command::Char {
             string: _,
             count: _,

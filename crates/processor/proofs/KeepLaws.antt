@@ -20,6 +20,7 @@ use Rattle.model.specs.declared.Decoded.{Decoded}
 use Rattle.model.specs.declared.Decoded.the-variants.{Do, End, Fault}
 use Rattle.model.specs.Numbers.{statusRunning, faultBitmap, faultCall, faultClip, faultData, faultNoBitmap}
 use Rattle.model.specs.Words.{wordAt, addressEnd}
+use Rattle.model.specs.Coordinates.{coord, negative}
 use Rattle.model.specs.Bitmaps.{ruleBroken, bitmapOf, surfaceOf}
 use Rattle.model.specs.Record.{faulted}
 use Rattle.model.specs.Commands.{Addressed, fontAt, opcodeOf, fetch, decode}
@@ -35,20 +36,20 @@ use Rattle.refusals.proofs.GoodLaws.{good-pointer, good-ended, good-faulted, go
 use Rattle.refusals.proofs.GoodLaws.{good-pattern, good-spacing, good-orientation, good-font, good-flags, good-returns, good-baseBad}
 use Rattle.decoder.proofs.DecodeLaws.{decode-addressed}
 
--- ## Faults are 20 to 29
+-- ## Faults are 20 to 30
 
 -- a number that is none, or one of the faults
 abbrev pub InRange : ℕ → Type 0
-InRange f = (f ≡ 0) ⊎ ((20 ≤ f) × (f ≤ 29))
+InRange f = (f ≡ 0) ⊎ ((20 ≤ f) × (f ≤ 30))
 
 none : InRange 0
 none = inl refl
 
-one : (f : ℕ) → 20 ≤ f → f ≤ 29 → InRange f
+one : (f : ℕ) → 20 ≤ f → f ≤ 30 → InRange f
 one f l h = inr (l, h)
 
 -- .. where a test holds, and else what follows
-first : (t : Bool) (f rest : ℕ) → 20 ≤ f → f ≤ 29 → InRange rest → InRange (cond t f rest)
+first : (t : Bool) (f rest : ℕ) → 20 ≤ f → f ≤ 30 → InRange rest → InRange (cond t f rest)
 first true f rest l h r = inr (l, h)
 first false f rest l h r = r
 
@@ -83,6 +84,7 @@ module _ (g : Geometry) (r : Row) (p : Pane) (store : List ℕ) where
   fault-range (command.Rect dx dy) = drawn 0 none
   fault-range (command.BitBlt b) = drawn _ (first (blockBad (surfaceOf g r (p .bitmap)) (rectangleOf b)) 29 0 (omega arith) (omega arith) none)
   fault-range (command.Polyline a n) = drawn _ (first (arrayBad r (p .bitmap) a (4 * n)) 25 0 (omega arith) (omega arith) none)
+  fault-range (command.Circle radius) = drawn _ (first (negative (coord radius)) 30 0 (omega arith) (omega arith) none)
   fault-range (command.Char a n t) = drawn _ (first (noFont (p .text .font)) 28 _ (omega arith) (omega arith)
       (first (stringBad r (p .bitmap) store (p .text .font) a n || descriptorsBad r (p .bitmap) store (p .text .font) a n) 25 0 (omega arith) (omega arith)
       none))
@@ -134,6 +136,7 @@ module _ (g : Geometry) (r : Row) (p : Pane) (good : Good g r p) (pixelOf : ℕ 
   effect-good (command.Rect dx dy) h e = tt
   effect-good (command.BitBlt b) h e = tt
   effect-good (command.Polyline a n) h e = tt
+  effect-good (command.Circle radius) h e = tt
   effect-good (command.Char a n t) h e = tt
   effect-good (command.BitBltM a xmax ymax b) h e = tt
   effect-good (command.ScanLines a n) h e = tt
@@ -157,7 +160,7 @@ module _ (g : Geometry) (r : Row) (p : Pane) (good : Good g r p) (pixelOf : ℕ 
 -- ## A step
 
 -- what the decoder answers beside a command is a fault 20 or 21
-fetch-fault : (len : ℕ) (s : List ℕ) (at : ℕ) (shape : OpcodeEntry) (f : ℕ) → fetch len s at shape ≡ Fault f → (20 ≤ f) × (f ≤ 29)
+fetch-fault : (len : ℕ) (s : List ℕ) (at : ℕ) (shape : OpcodeEntry) (f : ℕ) → fetch len s at shape ≡ Fault f → (20 ≤ f) × (f ≤ 30)
 unfolding fetch
 fetch-fault len s at Unknown f e = let q : 20 ≡ f = cc in (omega arith, omega arith)
 fetch-fault len s at (Known op n) f e = split (ltb len (at + 2 + 2 * n))
@@ -170,7 +173,7 @@ fetch-fault len s at (Known op n) f e = split (ltb len (at + 2 + 2 * n))
     do-fault : {c : Command} {m n : ℕ} → Do c m ≡ Fault n → ⊥
     do-fault q = let z : _≡_ {A = ℕ} 0 1 = cc in omega arith
 
-decode-fault : (len : ℕ) (s : List ℕ) (at f : ℕ) → decode len s at ≡ Fault f → (20 ≤ f) × (f ≤ 29)
+decode-fault : (len : ℕ) (s : List ℕ) (at f : ℕ) → decode len s at ≡ Fault f → (20 ≤ f) × (f ≤ 30)
 unfolding decode
 decode-fault len s at f e = split (eqb (at % 2) 1 || ltb len (at + 2))
     (λ t. let q : 21 ≡ f = fault-is (sym (cond-true _ _ t) ∙ e) in (omega arith, omega arith))

@@ -40,25 +40,25 @@ module _ (p : Progress) where
   unfolding progressBad
   progressBad-good h = record {
     status = ltb-false 3 (p .status) (a .0);
-    least = λ e. within-false 20 29 (p .fault) (at e) .0;
-    most = λ e. within-false 20 29 (p .fault) (at e) .1;
+    least = λ e. within-false 20 30 (p .fault) (at e) .0;
+    most = λ e. within-false 20 30 (p .fault) (at e) .1;
     none = λ n. eqb-true (p .fault) 0 (not-false (eqb (p .fault) 0) (rw (ne-eqb (p .status) statusFaulted n) at (b .1)));
   }
     where
-      a : (ltb statusFaulted (p .status) ≡ false) × (((eqb (p .status) statusFaulted && outOf 20 29 (p .fault)) ||
+      a : (ltb statusFaulted (p .status) ≡ false) × (((eqb (p .status) statusFaulted && outOf 20 30 (p .fault)) ||
           (not (eqb (p .status) statusFaulted) && not (eqb (p .fault) 0))) ≡ false)
       a = either-false (ltb statusFaulted (p .status)) _ h
 
-      b : ((eqb (p .status) statusFaulted && outOf 20 29 (p .fault)) ≡ false) × ((not (eqb (p .status) statusFaulted) && not (eqb (p .fault) 0)) ≡ false)
-      b = either-false (eqb (p .status) statusFaulted && outOf 20 29 (p .fault)) (not (eqb (p .status) statusFaulted) && not (eqb (p .fault) 0)) (a .1)
+      b : ((eqb (p .status) statusFaulted && outOf 20 30 (p .fault)) ≡ false) × ((not (eqb (p .status) statusFaulted) && not (eqb (p .fault) 0)) ≡ false)
+      b = either-false (eqb (p .status) statusFaulted && outOf 20 30 (p .fault)) (not (eqb (p .status) statusFaulted) && not (eqb (p .fault) 0)) (a .1)
 
-      at : p .status ≡ statusFaulted → outOf 20 29 (p .fault) ≡ false
+      at : p .status ≡ statusFaulted → outOf 20 30 (p .fault) ≡ false
       at e = rw (eq-eqb (p .status) statusFaulted e) at (b .0)
 
   pub good-progressBad : GoodProgress p → progressBad p ≡ false
   unfolding progressBad
   good-progressBad q = either-none (le-ltb statusFaulted (p .status) (q .status)) (split (eqb (p .status) statusFaulted)
-      (λ e. let f = eqb-true (p .status) statusFaulted e in rw (e, le-ltb (p .fault) 20 (q .least f), le-ltb 29 (p .fault) (q .most f)))
+      (λ e. let f = eqb-true (p .status) statusFaulted e in rw (e, le-ltb (p .fault) 20 (q .least f), le-ltb 30 (p .fault) (q .most f)))
       (λ e. rw (e, eq-eqb (p .fault) 0 (q .none (eqb-false (p .status) statusFaulted e)))))
 
 -- a font's base
@@ -121,7 +121,7 @@ module _ {g : Geometry} {r : Row} {p : Pane} (q : Good g r p) where
     returns = q .returns;
   }
 
-  pub good-faulted : (f : ℕ) → 20 ≤ f → f ≤ 29 → Good g r (faulted p f)
+  pub good-faulted : (f : ℕ) → 20 ≤ f → f ≤ 30 → Good g r (faulted p f)
   good-faulted f l m = record {
     progress = record { status = omega arith; least = λ e. l; most = λ e. m; none = λ n. absurd (n refl) };
     rule = q .rule;

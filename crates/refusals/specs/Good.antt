@@ -15,7 +15,7 @@ use Rattle.model.specs.Setup.{fontBad}
 pub record GoodProgress (p : Progress) : Type 0 where
   pub status : p .status ≤ statusFaulted
   pub least : p .status ≡ statusFaulted → 20 ≤ p .fault
-  pub most : p .status ≡ statusFaulted → p .fault ≤ 29
+  pub most : p .status ≡ statusFaulted → p .fault ≤ 30
   pub none : (p .status ≡ statusFaulted → ⊥) → p .fault ≡ 0
 
 pub record GoodText (t : Text) : Type 0 where

@@ -12,12 +12,12 @@ ghost use Rattle.model.specs.Setup.{progressBad, baseBad, fontBad, paneBad};
 // "Addresses have 22 bits": each is below this.
 const ADDRESS_END: u32 = 0x400000;
 
-// Whether status and fault don't go together.
+// Whether status and fault don't go together; "refusal 12 admits fault 30 at status 3" (02, A.1).
 fn progress_bad(p: Progress) -> bool
     ensures { λ r. ⌜ r ≡ progressBad p ⌝ }
 {
     (p.status > STATUS_FAULTED)
-        | (((p.status == STATUS_FAULTED) & ((p.fault < 20) | (p.fault > 29)))
+        | (((p.status == STATUS_FAULTED) & ((p.fault < 20) | (p.fault > 30)))
             | (!(p.status == STATUS_FAULTED) & !(p.fault == 0)))
 }
 

@@ -7,6 +7,9 @@ use super::seasoning::{nonsense, refused, season, strange_line};
 use crate::script::{Language, LONGEST_SCRIPT};
 use std::fmt::Write;
 
+/// The faults that a list may end with, those with many cases more often.
+const FAULTS: [u32; 14] = [20, 21, 21, 22, 22, 24, 25, 25, 25, 26, 27, 29, 29, 30];
+
 /// The random script of a seed, at most 8,192 bytes long.
 pub fn script(language: Language, seed: u64) -> Vec<u8> {
     let mut dice = Dice::new(seed);
@@ -205,7 +208,7 @@ fn pane_groups(
         let most = ((room - 60) / 4).min(dice.between(50, 190) as usize);
         let ending = match dice.weighted(&[42, 36, 8, 4, 10]) {
             0 => Ending::End,
-            1 => Ending::Fault(dice.pick(&[20, 21, 21, 22, 22, 24, 25, 25, 25, 26, 27, 29, 29])),
+            1 => Ending::Fault(dice.pick(&FAULTS)),
             2 => Ending::Loop,
             3 => Ending::DrawnOver,
             _ => Ending::Pick,

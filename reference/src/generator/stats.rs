@@ -224,7 +224,8 @@ fn kind(command: &Command, active: Bitmap, byte_mode: bool) -> String {
         Command::BitBltM { address, .. } if *address == PANE_ADDRESS => " from pane",
         Command::BitBltM { .. } => " from store",
         Command::Point { .. } | Command::Line { .. } | Command::Rect { .. } => "",
-        Command::Polyline { .. } | Command::ScanLines { .. } | Command::BitBlt { .. } => "",
+        Command::Circle { .. } | Command::Polyline { .. } | Command::ScanLines { .. } => "",
+        Command::BitBlt { .. } => "",
         _ => return command.name().to_string(),
     };
     let place = if matches!(active, Bitmap::Store { .. }) {

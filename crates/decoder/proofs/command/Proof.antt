@@ -83,19 +83,22 @@ command-spec =
     (λ c κs. omega (arith, ap wordCount (c .enum-told19 .given .1)))
     (λ c κs. omega (arith, ap wordCount (c .before .enum-told19 .given .1)))
     (λ c. search needs)
+    -- CIRCLE
+    (λ c κs. omega (arith, ap wordCount (c .enum-told20 .given .1)))
+    (λ c. search needs)
     -- CHAR
     (λ c κs. omega (arith, ap wordCount (c .before .op3 .given .1)))
     (λ c κs. omega (arith, ap wordCount (c .before .before .op3 .given .1)))
     (λ c. search needs)
     -- BIT_BLT_M
-    (λ c κs. omega (arith, ap wordCount (c .enum-told20 .given .1)))
-    (λ c κs. omega (arith, ap wordCount (c .before .enum-told20 .given .1)))
-    (λ c κs. omega (arith, ap wordCount (c .before .before .enum-told20 .given .1)))
-    (λ c κs. omega (arith, ap wordCount (c .before .before .before .enum-told20 .given .1)))
-    (λ c. search needs)
-    -- SCAN_LINES
     (λ c κs. omega (arith, ap wordCount (c .enum-told21 .given .1)))
     (λ c κs. omega (arith, ap wordCount (c .before .enum-told21 .given .1)))
+    (λ c κs. omega (arith, ap wordCount (c .before .before .enum-told21 .given .1)))
+    (λ c κs. omega (arith, ap wordCount (c .before .before .before .enum-told21 .given .1)))
+    (λ c. search needs)
+    -- SCAN_LINES
+    (λ c κs. omega (arith, ap wordCount (c .enum-told22 .given .1)))
+    (λ c κs. omega (arith, ap wordCount (c .before .enum-told22 .given .1)))
     -- LINK
     (λ c. rw (c .before .enum-told .given .1, c .address .ensures))
     -- NOP
@@ -150,15 +153,17 @@ command-spec =
     (λ c. rw (c .before .enum-told18 .given .1, c .block .ensures))
     -- POLYLINE
     (λ c. rw (c .before .before .enum-told19 .given .1, c .before .address5 .ensures, c .parameter25 .ensures))
+    -- CIRCLE
+    (λ c. rw (c .before .enum-told20 .given .1, c .parameter26 .ensures))
     -- CHAR
-    (λ c. rw (c .before .before .before .op3 .given .1, c .before .address6 .ensures, c .parameter26 .ensures))
+    (λ c. rw (c .before .before .before .op3 .given .1, c .before .address6 .ensures, c .parameter27 .ensures))
     -- BIT_BLT_M
     (λ c. rw (
-      c .before .before .before .before .enum-told20 .given .1,
+      c .before .before .before .before .enum-told21 .given .1,
       c .before .before .before .address7 .ensures,
-      c .before .before .parameter27 .ensures,
-      c .before .parameter28 .ensures,
+      c .before .before .parameter28 .ensures,
+      c .before .parameter29 .ensures,
       c .block2 .ensures,
     ))
     -- SCAN_LINES
-    (λ c. rw (c .before .before .enum-told21 .given .1, c .before .address8 .ensures, c .parameter29 .ensures)))
+    (λ c. rw (c .before .before .enum-told22 .given .1, c .before .address8 .ensures, c .parameter30 .ensures)))

@@ -20,29 +20,30 @@ listed k =
     eqb k 0x02 || eqb k 0x03 || eqb k 0x0F || eqb k 0x17 || eqb k 0x1A
     || eqb k 0x3D || eqb k 0x41 || eqb k 0x44 || eqb k 0x45 || eqb k 0x46
     || eqb k 0x4D || eqb k 0x4E || eqb k 0x4F || eqb k 0x52 || eqb k 0x53
-    || eqb k 0x58 || eqb k 0x64 || eqb k 0x74 || eqb k 0xAE || eqb k 0xBA
+    || eqb k 0x58 || eqb k 0x64 || eqb k 0x74 || eqb k 0x8E || eqb k 0xAE || eqb k 0xBA
 
 none : (c : tie.At-match-rest) → listed (c .before .args .op) ≡ false
 none c =
     simp (
-      ne-eqb _ 0x02 (c .match .rest .0 .0 .0 .0 .0 .0 .0 .0 .0 .0 .0 .0 .0 .0 .0 .0 .0 .0 .0 .1),
-      ne-eqb _ 0x03 (c .match .rest .0 .0 .0 .0 .0 .0 .0 .0 .0 .0 .0 .0 .0 .0 .0 .0 .0 .0 .1),
-      ne-eqb _ 0x0F (c .match .rest .0 .0 .0 .0 .0 .0 .0 .0 .0 .0 .0 .0 .0 .0 .0 .0 .0 .1),
-      ne-eqb _ 0x17 (c .match .rest .0 .0 .0 .0 .0 .0 .0 .0 .0 .0 .0 .0 .0 .0 .0 .0 .1),
-      ne-eqb _ 0x1A (c .match .rest .0 .0 .0 .0 .0 .0 .0 .0 .0 .0 .0 .0 .0 .0 .0 .1),
-      ne-eqb _ 0x3D (c .match .rest .0 .0 .0 .0 .0 .0 .0 .0 .0 .0 .0 .0 .0 .0 .1),
-      ne-eqb _ 0x41 (c .match .rest .0 .0 .0 .0 .0 .0 .0 .0 .0 .0 .0 .0 .0 .1),
-      ne-eqb _ 0x44 (c .match .rest .0 .0 .0 .0 .0 .0 .0 .0 .0 .0 .0 .0 .1),
-      ne-eqb _ 0x45 (c .match .rest .0 .0 .0 .0 .0 .0 .0 .0 .0 .0 .0 .1),
-      ne-eqb _ 0x46 (c .match .rest .0 .0 .0 .0 .0 .0 .0 .0 .0 .0 .1),
-      ne-eqb _ 0x4D (c .match .rest .0 .0 .0 .0 .0 .0 .0 .0 .0 .1),
-      ne-eqb _ 0x4E (c .match .rest .0 .0 .0 .0 .0 .0 .0 .0 .1),
-      ne-eqb _ 0x4F (c .match .rest .0 .0 .0 .0 .0 .0 .0 .1),
-      ne-eqb _ 0x52 (c .match .rest .0 .0 .0 .0 .0 .0 .1),
-      ne-eqb _ 0x53 (c .match .rest .0 .0 .0 .0 .0 .1),
-      ne-eqb _ 0x58 (c .match .rest .0 .0 .0 .0 .1),
-      ne-eqb _ 0x64 (c .match .rest .0 .0 .0 .1),
-      ne-eqb _ 0x74 (c .match .rest .0 .0 .1),
+      ne-eqb _ 0x02 (c .match .rest .0 .0 .0 .0 .0 .0 .0 .0 .0 .0 .0 .0 .0 .0 .0 .0 .0 .0 .0 .0 .1),
+      ne-eqb _ 0x03 (c .match .rest .0 .0 .0 .0 .0 .0 .0 .0 .0 .0 .0 .0 .0 .0 .0 .0 .0 .0 .0 .1),
+      ne-eqb _ 0x0F (c .match .rest .0 .0 .0 .0 .0 .0 .0 .0 .0 .0 .0 .0 .0 .0 .0 .0 .0 .0 .1),
+      ne-eqb _ 0x17 (c .match .rest .0 .0 .0 .0 .0 .0 .0 .0 .0 .0 .0 .0 .0 .0 .0 .0 .0 .1),
+      ne-eqb _ 0x1A (c .match .rest .0 .0 .0 .0 .0 .0 .0 .0 .0 .0 .0 .0 .0 .0 .0 .0 .1),
+      ne-eqb _ 0x3D (c .match .rest .0 .0 .0 .0 .0 .0 .0 .0 .0 .0 .0 .0 .0 .0 .0 .1),
+      ne-eqb _ 0x41 (c .match .rest .0 .0 .0 .0 .0 .0 .0 .0 .0 .0 .0 .0 .0 .0 .1),
+      ne-eqb _ 0x44 (c .match .rest .0 .0 .0 .0 .0 .0 .0 .0 .0 .0 .0 .0 .0 .1),
+      ne-eqb _ 0x45 (c .match .rest .0 .0 .0 .0 .0 .0 .0 .0 .0 .0 .0 .0 .1),
+      ne-eqb _ 0x46 (c .match .rest .0 .0 .0 .0 .0 .0 .0 .0 .0 .0 .0 .1),
+      ne-eqb _ 0x4D (c .match .rest .0 .0 .0 .0 .0 .0 .0 .0 .0 .0 .1),
+      ne-eqb _ 0x4E (c .match .rest .0 .0 .0 .0 .0 .0 .0 .0 .0 .1),
+      ne-eqb _ 0x4F (c .match .rest .0 .0 .0 .0 .0 .0 .0 .0 .1),
+      ne-eqb _ 0x52 (c .match .rest .0 .0 .0 .0 .0 .0 .0 .1),
+      ne-eqb _ 0x53 (c .match .rest .0 .0 .0 .0 .0 .0 .1),
+      ne-eqb _ 0x58 (c .match .rest .0 .0 .0 .0 .0 .1),
+      ne-eqb _ 0x64 (c .match .rest .0 .0 .0 .0 .1),
+      ne-eqb _ 0x74 (c .match .rest .0 .0 .0 .1),
+      ne-eqb _ 0x8E (c .match .rest .0 .0 .1),
       ne-eqb _ 0xAE (c .match .rest .0 .1),
       ne-eqb _ 0xBA (c .match .rest .1),
     )
@@ -141,69 +142,74 @@ returns-18 : tie.Need-returns-18
 unfolding opcodeOf
 returns-18 c = rw (c .match .keys18)
 
--- BIT_BLT_M
+-- CIRCLE
 returns-19 : tie.Need-returns-19
 unfolding opcodeOf
 returns-19 c = rw (c .match .keys19)
 
--- SCAN_LINES
+-- BIT_BLT_M
 returns-20 : tie.Need-returns-20
 unfolding opcodeOf
 returns-20 c = rw (c .match .keys20)
 
--- DEF_TEXTURE
+-- SCAN_LINES
 returns-21 : tie.Need-returns-21
 unfolding opcodeOf
-returns-21 c =
+returns-21 c = rw (c .match .keys21)
+
+-- DEF_TEXTURE
+returns-22 : tie.Need-returns-22
+unfolding opcodeOf
+returns-22 c =
     range (λ (k : ℕ). Known (opcode.DefTexture (eqb k 0x07)) 1 ≡ opcodeOf k) 0x06 2 (refl, (refl, tt)) (c .before .before .before .args .op) (omega arith)
     (omega arith)
 
 -- DEF_CHAR_SET
-returns-22 : tie.Need-returns-22
+returns-23 : tie.Need-returns-23
 unfolding opcodeOf
-returns-22 c =
+returns-23 c =
     range (λ (k : ℕ). Known (opcode.DefCharSet (eqb k 0x0B)) 2 ≡ opcodeOf k) 0x0A 2 (refl, (refl, tt)) (c .before .before .before .before .before .args .op)
     (omega arith) (omega arith)
 
 -- LINE
-returns-23 : tie.Need-returns-23
-unfolding opcodeOf
-returns-23 c =
-    range (λ (k : ℕ). Known opcode.Line 2 ≡ opcodeOf k) 0x54 2 (refl, (refl, tt)) (c .before .before .before .before .before .before .before .args .op)
-    (line-low _ (c .before .if5 .left) (c .before .before .before .before .before .before .match .rest .0 .0 .0 .0 .0 .0 .1)
-    (c .before .before .before .before .before .before .match .rest .0 .0 .0 .0 .0 .1)) (omega arith)
-
--- CHAR
 returns-24 : tie.Need-returns-24
 unfolding opcodeOf
 returns-24 c =
+    range (λ (k : ℕ). Known opcode.Line 2 ≡ opcodeOf k) 0x54 2 (refl, (refl, tt)) (c .before .before .before .before .before .before .before .args .op)
+    (line-low _ (c .before .if5 .left) (c .before .before .before .before .before .before .match .rest .0 .0 .0 .0 .0 .0 .0 .1)
+    (c .before .before .before .before .before .before .match .rest .0 .0 .0 .0 .0 .0 .1)) (omega arith)
+
+-- CHAR
+returns-25 : tie.Need-returns-25
+unfolding opcodeOf
+returns-25 c =
     range (λ (k : ℕ). Known (opcode.Char (eqb (k % 2) 1)) 3 ≡ opcodeOf k) 0xA6 4 (refl, (refl, (refl, (refl, tt))))
     (c .before .before .before .before .before .before .before .before .before .args .op) (omega arith) (omega arith)
 
 -- no command: what is left below DEF_TEXTURE, and in each gap up to CHAR and above it
-returns-25 : tie.Need-returns-25
-unfolding opcodeOf
-returns-25 c = sym (opcode-of-gap listed 0 6 tt (c .before .before .args .op) (omega arith) (omega arith) (none (c .before)))
-
 returns-26 : tie.Need-returns-26
 unfolding opcodeOf
-returns-26 c = sym (opcode-of-gap listed 8 2 tt (c .before .before .before .before .args .op) (omega arith) (omega arith) (none (c .before .before .before)))
+returns-26 c = sym (opcode-of-gap listed 0 6 tt (c .before .before .args .op) (omega arith) (omega arith) (none (c .before)))
 
 returns-27 : tie.Need-returns-27
 unfolding opcodeOf
-returns-27 c =
-    sym (opcode-of-gap listed 12 70 tt (c .before .before .before .before .before .before .args .op) (omega arith) (omega arith)
-    (none (c .before .before .before .before .before)))
+returns-27 c = sym (opcode-of-gap listed 8 2 tt (c .before .before .before .before .args .op) (omega arith) (omega arith) (none (c .before .before .before)))
 
 returns-28 : tie.Need-returns-28
 unfolding opcodeOf
 returns-28 c =
-    sym (opcode-of-gap listed 86 80 tt (c .before .before .before .before .before .before .before .before .args .op) (omega arith) (omega arith)
-    (none (c .before .before .before .before .before .before .before)))
+    sym (opcode-of-gap listed 12 70 tt (c .before .before .before .before .before .before .args .op) (omega arith) (omega arith)
+    (none (c .before .before .before .before .before)))
 
 returns-29 : tie.Need-returns-29
 unfolding opcodeOf
 returns-29 c =
+    sym (opcode-of-gap listed 86 80 tt (c .before .before .before .before .before .before .before .before .args .op) (omega arith) (omega arith)
+    (none (c .before .before .before .before .before .before .before)))
+
+returns-30 : tie.Need-returns-30
+unfolding opcodeOf
+returns-30 c =
     sym (opcode-of-gap listed 170 86 tt (c .before .before .before .before .before .before .before .before .before .args .op) (omega arith) (omega arith)
     (none (c .before .before .before .before .before .before .before .before)))
 
@@ -239,4 +245,5 @@ opcode-of-spec =
     returns-26
     returns-27
     returns-28
-    returns-29)
+    returns-29
+    returns-30)

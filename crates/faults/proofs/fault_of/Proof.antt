@@ -64,8 +64,11 @@ fault-of-spec =
     (λ c. search needs)
     (λ c κs. (subst Addressed (c .before .c5 .given .1) (entry (c .before .before .before) .pre .1) _ pairsAt, omega arith))
     (λ c. search needs)
+    -- CIRCLE
+    (λ c κs. search needs)
+    (λ c. search needs)
     -- CHAR
-    (λ c κs. string-addressed (c .before .c6 .given .1) (entry (c .before .before .before) .pre .0) (entry (c .before .before .before) .pre .1))
+    (λ c κs. string-addressed (c .before .c7 .given .1) (entry (c .before .before .before) .pre .0) (entry (c .before .before .before) .pre .1))
     (λ c. search needs)
     -- BIT_BLT_M
     (λ c κs. judged-active (entry (c .before .before .before) .pre .0))
@@ -75,7 +78,7 @@ fault-of-spec =
     -- SCAN_LINES
     (λ c. search needs)
     (λ c. search needs)
-    (λ c κs. (subst Addressed (c .before .c8 .given .1) (entry (c .before .before .before) .pre .1) _ triplesAt, omega arith))
+    (λ c κs. (subst Addressed (c .before .c9 .given .1) (entry (c .before .before .before) .pre .1) _ triplesAt, omega arith))
     -- LINK
     (λ c. rw (c .enum-told .given .1))
     -- NOP
@@ -118,14 +121,16 @@ fault-of-spec =
     (λ c. rw (c .before .before .c4 .given .1, c .block-fault .ensures))
     -- POLYLINE
     (λ c. rw (c .before .before .c5 .given .1, c .array-fault .ensures))
+    -- CIRCLE
+    (λ c. rw (c .before .before .c6 .given .1, c .circle-fault .ensures))
     -- CHAR
-    (λ c. rw (c .before .before .c6 .given .1, c .char-fault .ensures))
+    (λ c. rw (c .before .before .c7 .given .1, c .char-fault .ensures))
     -- BIT_BLT_M
     (λ c. rw (
-      c .before .before .before .before .c7 .given .1,
+      c .before .before .before .before .c8 .given .1,
       c .draw-fault4 .ensures,
       c .before .copy-fault .ensures,
       c .before .before .source-of .ensures .0,
     ))
     -- SCAN_LINES
-    (λ c. rw (c .before .before .c8 .given .1, c .array-fault2 .ensures)))
+    (λ c. rw (c .before .before .c9 .given .1, c .array-fault2 .ensures)))

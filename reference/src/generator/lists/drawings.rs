@@ -42,36 +42,49 @@ impl Plan {
     pub fn draw_far(&mut self, dice: &mut Dice, list: &mut List) {
         let (width, height, _) = self.size();
         let (x, y) = (dice.between(0, width - 1), dice.between(0, height - 1));
-        if dice.chance(50) {
-            // The position wraps into the bitmap.
-            let from = -32768 + dice.between(0, x);
-            list.add(dice, opcodes::ABS_MOV, &[from, y]);
-            let step = [x - from - 65536, 0];
-            let opcode = dice.pick(&[opcodes::POINT, opcodes::POINT, opcodes::REL_MOV]);
-            list.add(dice, opcode, &step);
-            if opcode == opcodes::REL_MOV {
-                self.one_drawing(dice, list);
+        match dice.weighted(&[40, 20, 20, 10, 10]) {
+            0 => {
+                // The position wraps into the bitmap.
+                let from = -32768 + dice.between(0, x);
+                list.add(dice, opcodes::ABS_MOV, &[from, y]);
+                let step = [x - from - 65536, 0];
+                let opcode = dice.pick(&[opcodes::POINT, opcodes::POINT, opcodes::REL_MOV]);
+                list.add(dice, opcode, &step);
+                if opcode == opcodes::REL_MOV {
+                    self.one_drawing(dice, list);
+                }
             }
-        } else if dice.chance(50) {
-            // The far end of the line would wrap to column or row 0.
-            let opcode = dice.pick(&[opcodes::LINE, opcodes::RECT]);
-            list.add(dice, opcodes::ABS_MOV, &[-32768, y]);
-            list.add(dice, opcode, &[-32768, 0]);
-        } else {
-            let opcode = dice.pick(&[opcodes::LINE_OPEN, opcodes::RECT]);
-            list.add(dice, opcodes::ABS_MOV, &[x, -32768]);
-            list.add(dice, opcode, &[0, -32768]);
+            1 => {
+                // The far end of the line would wrap to column or row 0.
+                let opcode = dice.pick(&[opcodes::LINE, opcodes::RECT]);
+                list.add(dice, opcodes::ABS_MOV, &[-32768, y]);
+                list.add(dice, opcode, &[-32768, 0]);
+            }
+            2 => {
+                let opcode = dice.pick(&[opcodes::LINE_OPEN, opcodes::RECT]);
+                list.add(dice, opcodes::ABS_MOV, &[x, -32768]);
+                list.add(dice, opcode, &[0, -32768]);
+            }
+            3 => {
+                // The far side of the circle would wrap to column x or row y.
+                list.add(dice, opcodes::ABS_MOV, &[-32768, y]);
+                list.add(dice, opcodes::CIRCLE, &[32768 - x.max(1)]);
+            }
+            _ => {
+                list.add(dice, opcodes::ABS_MOV, &[x, -32768]);
+                list.add(dice, opcodes::CIRCLE, &[32768 - y.max(1)]);
+            }
         }
     }
 
     pub fn one_drawing(&mut self, dice: &mut Dice, list: &mut List) {
-        let kind = dice.weighted(&[8, 18, 12, 20, 13, 15, 14]);
+        let kind = dice.weighted(&[8, 16, 11, 18, 12, 14, 13, 13]);
         self.drawing_of(dice, list, kind);
     }
 
     /// A drawing command that is good in any bitmap; a copy seldom is.
     pub fn draw_anywhere(&mut self, dice: &mut Dice, list: &mut List) {
-        let kind = dice.weighted(&[15, 25, 15, 20, 1, 1, 23]);
+        let kind = dice.weighted(&[13, 22, 13, 18, 1, 1, 20, 16]);
         self.drawing_of(dice, list, kind);
     }
 
@@ -111,8 +124,41 @@ impl Plan {
             }
             4 => self.copy_within(dice, list),
             5 => self.copy_between(dice, list),
-            _ => self.text(dice, list),
+            6 => self.text(dice, list),
+            _ => self.circle(dice, list),
         }
+    }
+
+    /// CIRCLE, mostly about as large as the bitmap; or one of any size, often
+    /// beside it or all around it.
+    pub fn circle(&mut self, dice: &mut Dice, list: &mut List) {
+        let (width, height, _) = self.size();
+        let radius = match dice.weighted(&[60, 13, 10, 12, 5]) {
+            0 => dice.between(1, width.min(height) / 2 + 1),
+            1 => dice.between(1, width + height),
+            2 => 0,
+            3 => {
+                self.circle_through(dice, list);
+                return;
+            }
+            _ => dice.pick(&[32767, 32766, 16384, 5000, 300]),
+        };
+        list.add(dice, opcodes::CIRCLE, &[radius]);
+    }
+
+    /// A circle of any size through a pixel of the bitmap, or right beside it.
+    pub fn circle_through(&mut self, dice: &mut Dice, list: &mut List) {
+        let (width, height, _) = self.size();
+        let radius = match dice.weighted(&[40, 30, 30]) {
+            0 => dice.between(1, 60),
+            1 => dice.between(60, 3000),
+            _ => dice.between(3000, 32767),
+        };
+        let across = dice.between(-radius, radius);
+        let down = (radius * radius - across * across).isqrt() * dice.pick(&[-1, 1]);
+        let (x, y) = (dice.between(0, width - 1), dice.between(0, height - 1));
+        list.add(dice, opcodes::ABS_MOV, &[x + across, y + down]);
+        list.add(dice, opcodes::CIRCLE, &[radius]);
     }
 
     /// CHAR with a good string, after DEF_CHAR_SET if there was none.
@@ -162,9 +208,13 @@ impl Plan {
         let (width, height, _) = self.size();
         let place = [dice.between(-1, width), dice.between(-1, height)];
         list.add(dice, opcodes::ABS_MOV, &place);
-        match dice.between(0, 2) {
+        match dice.between(0, 3) {
             0 => self.one_drawing(dice, list),
             1 => self.text(dice, list),
+            2 => {
+                let radius = dice.between(0, 5);
+                list.add(dice, opcodes::CIRCLE, &[radius]);
+            }
             _ => {
                 let opcode = dice.pick(&[opcodes::POINT, opcodes::LINE, opcodes::RECT]);
                 let far = [dice.between(-2, 2), dice.between(-2, 2)];

@@ -10,7 +10,7 @@ use crate::generator::dice::Dice;
 use crate::opcodes;
 
 /// Opcodes that the paper leaves out; most of them are the chip's.
-const UNKNOWN: [u16; 10] = [0x00, 0x0E, 0x29, 0x34, 0x68, 0x69, 0x73, 0x8E, 0xB4, 0xD4];
+const UNKNOWN: [u16; 9] = [0x00, 0x0E, 0x29, 0x34, 0x68, 0x69, 0x73, 0xB4, 0xD4];
 
 impl Plan {
     /// A command that faults with the number.
@@ -107,6 +107,14 @@ impl Plan {
             }
             27 => list.add(dice, opcodes::RETURN, &[]),
             29 => self.fault_29(dice, list),
+            30 => {
+                let radius = match dice.weighted(&[50, 30, 20]) {
+                    0 => dice.between(-width - 1, -1),
+                    1 => dice.pick(&[-1, -32768, -32767]),
+                    _ => dice.between(-32768, -1),
+                };
+                list.add(dice, opcodes::CIRCLE, &[radius]);
+            }
             // 23 and 28 need a fresh record; here a drawing command.
             _ => self.draw(dice, list),
         }

@@ -32,10 +32,11 @@ pub struct Plan {
 
 /// First words of commands, most of which lack their parameter words at the
 /// end of a store; one is an end word, one has an unknown opcode.
-const LAST_WORDS: [u16; 9] = [
+const LAST_WORDS: [u16; 10] = [
     opcodes::NOP << 8,
     opcodes::REL_MOV << 8,
     opcodes::LINE << 8,
+    opcodes::CIRCLE << 8,
     opcodes::DEF_BITMAP << 8,
     opcodes::BIT_BLT_M << 8,
     opcodes::DEF_SPACE << 8,
@@ -214,6 +215,9 @@ impl Plan {
             self.character(dice, &mut list, Some(byte_mode));
         } else if dice.chance(20) {
             list.add(dice, opcodes::DEF_CLIP_RECT, &[0, 0, 0, 0]);
+        } else if dice.chance(10) {
+            // 23 comes before 30.
+            self.fault(dice, &mut list, 30);
         } else {
             self.one_drawing(dice, &mut list);
         }

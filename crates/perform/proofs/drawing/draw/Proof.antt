@@ -10,7 +10,7 @@ use Rattle.canvas.proofs.LoopLaws.{drew-lengths}
 use Rattle.perform.proofs.KindLaws.{drawingTags}
 use Rattle.perform.proofs.ReadyLaws.{sound-sizes, sound-active}
 use Rattle.perform.proofs.DrawingLaws.{drawing-active, drawing-ready, polyline-reach, scan-lines-reach, bit-blt-inside}
-use Rattle.perform.proofs.DrawingLaws.{bit-blt-m-copyable, char-writable, point-carries, line-carries, rect-carries}
+use Rattle.perform.proofs.DrawingLaws.{bit-blt-m-copyable, char-writable, point-carries, line-carries, rect-carries, circle-carries}
 use Rattle.perform.proofs.DrawingLaws.{polyline-carries, scan-lines-carries, bit-blt-carries, bit-blt-m-carries}
 use Rattle.perform.proofs.DrawingLaws.{char-carries, carries-not}
 use Rattle.perform.proofs.drawing.draw.Statement.{statement}
@@ -29,7 +29,7 @@ read c = c .before .before .before .before .before
 
 source-at : (c : tie.After-area-of) →
     let a = entry (read c) .args in
-    let named = c .before .before .before .c7 .given .0 in
+    let named = c .before .before .before .c8 .given .0 in
     c .area-of .result
     ≡ areaOf (a .f .geometry) (a .f .row) (sourceBitmap (a .f .geometry) (a .f .row) (a .p) (named .0) (named .1 .0) (named .1 .1 .0))
 source-at c =
@@ -53,16 +53,20 @@ draw-spec =
     (λ c. search needs)
     (λ c κs. drawing-ready (entry (c .before .before .before .before .before) .pre) (aim (c .before .before .before .before .before) .target-of .ensures)
     (c .before .before .before .c3 .given .1) (hit drawingTags 18 tt))
+    -- CIRCLE
+    (λ c. search needs)
+    (λ c κs. drawing-ready (entry (c .before .before .before .before .before) .pre) (aim (c .before .before .before .before .before) .target-of .ensures)
+    (c .before .before .before .c4 .given .1) (hit drawingTags 21 tt))
     -- POLYLINE
     (λ c. search needs)
     (λ c. search needs)
     (λ c. search needs)
     (λ c κs. (
       drawing-ready (entry (c .before .before .before .before .before) .pre) (aim (c .before .before .before .before .before) .target-of .ensures)
-          (c .before .before .before .c4 .given .1) (hit drawingTags 20 tt),
+          (c .before .before .before .c5 .given .1) (hit drawingTags 20 tt),
       omega arith,
       polyline-reach (entry (c .before .before .before .before .before) .pre)
-          (aim (c .before .before .before .before .before) .target-of .ensures) (c .before .before .before .c4 .given .1),
+          (aim (c .before .before .before .before .before) .target-of .ensures) (c .before .before .before .c5 .given .1),
     ))
     -- SCAN_LINES
     (λ c. search needs)
@@ -70,18 +74,18 @@ draw-spec =
     (λ c. search needs)
     (λ c κs. (
       drawing-ready (entry (c .before .before .before .before .before) .pre) (aim (c .before .before .before .before .before) .target-of .ensures)
-          (c .before .before .before .c5 .given .1) (hit drawingTags 23 tt),
+          (c .before .before .before .c6 .given .1) (hit drawingTags 24 tt),
       omega arith,
       scan-lines-reach (entry (c .before .before .before .before .before) .pre)
-          (aim (c .before .before .before .before .before) .target-of .ensures) (c .before .before .before .c5 .given .1),
+          (aim (c .before .before .before .before .before) .target-of .ensures) (c .before .before .before .c6 .given .1),
     ))
     -- BIT_BLT
     (λ c. search needs)
     (λ c κs. (
       drawing-ready (entry (c .before .before .before .before .before) .pre) (aim (c .before .before .before .before .before) .target-of .ensures)
-          (c .before .before .before .c6 .given .1) (hit drawingTags 19 tt),
+          (c .before .before .before .c7 .given .1) (hit drawingTags 19 tt),
       bit-blt-inside (entry (c .before .before .before .before .before) .pre)
-          (aim (c .before .before .before .before .before) .target-of .ensures) (c .before .before .before .c6 .given .1),
+          (aim (c .before .before .before .before .before) .target-of .ensures) (c .before .before .before .c7 .given .1),
     ))
     -- BIT_BLT_M
     (λ c. search needs)
@@ -89,14 +93,14 @@ draw-spec =
     (λ c κs. let s = sound-sizes (entry (c .before .before .before .before) .pre .sound) in (s .0, s .1))
     (λ c κs.
     let at = read (c .before .before) in
-    let told = c .before .before .before .before .before .c7 .given .1 in (
-      drawing-ready (entry at .pre) (aim at .target-of .ensures) told (hit drawingTags 22 tt),
+    let told = c .before .before .before .before .before .c8 .given .1 in (
+      drawing-ready (entry at .pre) (aim at .target-of .ensures) told (hit drawingTags 23 tt),
       bit-blt-m-copyable (entry at .pre) (aim at .target-of .ensures) told (source-at (c .before .before)),
     ))
     -- CHAR
     (λ c. search needs)
     (λ c κs. char-writable (entry (c .before .before .before .before .before) .pre) (aim (c .before .before .before .before .before) .target-of .ensures)
-    (c .before .before .before .c8 .given .1))
+    (c .before .before .before .c9 .given .1))
     -- POINT
     (λ c. drew-lengths (c .before .before .before .before .point .ensures) .screen)
     (λ c. drew-lengths (c .before .before .before .before .point .ensures) .store)
@@ -112,35 +116,40 @@ draw-spec =
     (λ c. drew-lengths (c .before .before .before .before .rect .ensures) .store)
     (λ c. rect-carries _ _ _ _ _ _ _ _ (aim (c .before .before .before .before .before .before .before .before .before .before) .target-of .ensures)
     (c .before .before .before .before .before .before .before .before .c3 .given .1) (c .before .before .before .before .rect .ensures))
+    -- CIRCLE
+    (λ c. drew-lengths (c .before .before .before .before .circle .ensures) .screen)
+    (λ c. drew-lengths (c .before .before .before .before .circle .ensures) .store)
+    (λ c. circle-carries _ _ _ _ _ _ _ _ (aim (c .before .before .before .before .before .before .before .before .before .before) .target-of .ensures)
+    (c .before .before .before .before .before .before .before .before .c4 .given .1) (c .before .before .before .before .circle .ensures))
     -- POLYLINE
     (λ c. drew-lengths (c .before .before .before .before .polyline .ensures) .screen)
     (λ c. drew-lengths (c .before .before .before .before .polyline .ensures) .store)
     (λ c. polyline-carries _ _ _ _ _ _ _ _ (aim (c .before .before .before .before .before .before .before .before .before .before) .target-of .ensures)
-    (c .before .before .before .before .before .before .before .before .c4 .given .1) (omega arith) (c .before .before .before .before .polyline .ensures))
+    (c .before .before .before .before .before .before .before .before .c5 .given .1) (omega arith) (c .before .before .before .before .polyline .ensures))
     -- SCAN_LINES
     (λ c. drew-lengths (c .before .before .before .before .scan-lines .ensures) .screen)
     (λ c. drew-lengths (c .before .before .before .before .scan-lines .ensures) .store)
     (λ c. scan-lines-carries _ _ _ _ _ _ _ _ (aim (c .before .before .before .before .before .before .before .before .before .before) .target-of .ensures)
-    (c .before .before .before .before .before .before .before .before .c5 .given .1) (omega arith) (c .before .before .before .before .scan-lines .ensures))
+    (c .before .before .before .before .before .before .before .before .c6 .given .1) (omega arith) (c .before .before .before .before .scan-lines .ensures))
     -- BIT_BLT
     (λ c. drew-lengths (c .before .before .before .before .bit-blt .ensures) .screen)
     (λ c. drew-lengths (c .before .before .before .before .bit-blt .ensures) .store)
     (λ c. bit-blt-carries _ _ _ _ _ _ _ _ (aim (c .before .before .before .before .before .before .before .before .before .before) .target-of .ensures)
-    (c .before .before .before .before .before .before .before .before .c6 .given .1)
+    (c .before .before .before .before .before .before .before .before .c7 .given .1)
     (drawing-active (entry (c .before .before .before .before .before .before .before .before .before .before) .pre)
-    (c .before .before .before .before .before .before .before .before .c6 .given .1) (hit drawingTags 19 tt))
+    (c .before .before .before .before .before .before .before .before .c7 .given .1) (hit drawingTags 19 tt))
     (c .before .before .before .before .bit-blt .ensures))
     -- BIT_BLT_M
     (λ c. drew-lengths (c .before .before .before .before .bit-blt-m .ensures) .screen)
     (λ c. drew-lengths (c .before .before .before .before .bit-blt-m .ensures) .store)
     (λ c.
     let area = c .before .before .before .before .before .before .before in
-    bit-blt-m-carries _ _ _ _ _ _ _ _ (aim (read area) .target-of .ensures) (area .before .before .before .c7 .given .1) (source-at area)
+    bit-blt-m-carries _ _ _ _ _ _ _ _ (aim (read area) .target-of .ensures) (area .before .before .before .c8 .given .1) (source-at area)
     (c .before .before .before .before .bit-blt-m .ensures))
     -- CHAR
     (λ c. drew-lengths (c .before .before .before .before .draw-string .ensures) .screen)
     (λ c. drew-lengths (c .before .before .before .before .draw-string .ensures) .store)
     (λ c. char-carries _ _ _ _ _ _ _ _ (aim (c .before .before .before .before .before .before .before .before .before .before) .target-of .ensures)
-    (c .before .before .before .before .before .before .before .before .c8 .given .1) (omega arith) (c .before .before .before .before .draw-string .ensures))
+    (c .before .before .before .before .before .before .before .before .c9 .given .1) (omega arith) (c .before .before .before .before .draw-string .ensures))
     -- a command that draws nothing
-    (λ c. carries-not _ _ _ _ _ _ _ _ _ (c .match .keys9) refl))
+    (λ c. carries-not _ _ _ _ _ _ _ _ _ (c .match .keys10) refl))

@@ -1,0 +1,18 @@
+-- `draw_circles::circle` meets its contract: the circle about the position, which stays.
+use mathlib.Core.Path.{refl, sym}
+use borrow.Author.Needs.{needs}
+use Rattle.model.specs.Circles.{circle}
+use Rattle.draw_circles.proofs.circle.Statement.{statement}
+use Rattle.draw_circles.proofs.circle.Tie as tie
+
+ring-requires : tie.Need-ring-requires
+ring-requires c κs = let m = c .before .before in (m .before .before .before .pre, m .magnitude .ensures .1)
+
+returns : tie.Need-returns
+unfolding circle
+returns c =
+    let d = c .before .before .before .before in
+    record { dots = rw (sym (d .before .before .before .magnitude .ensures .0)) (d .ring .ensures); position = refl; trap = refl }
+
+pub circle-spec : {M : Type 1} → statement M
+circle-spec = tie.close (tie.spec (λ c κs. search needs) ring-requires (λ c. search needs) (λ c. search needs) returns)
