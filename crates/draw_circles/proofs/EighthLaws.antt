@@ -1,25 +1,22 @@
 -- The walk along an eighth of the circle: at each of its points (i,j) with i ≤ j, j is the one that passes for i; past the eighth none does.
-use mathlib.Core.Path.{_≡_, refl, sym, ap}
+use mathlib.Core.Path.{_≡_, sym, ap}
 use mathlib.Core.Logic.{_≢_}
 use mathlib.Core.List.{List, [], map}
 use Prim.Native.Nat.{ℕ, zero, suc, _+_, _-_, _*_, _≤_, _<_}
 use native.Mathlib.Nat.{mul-le-mul}
 use native.Mathlib.Omega.{arith}
-use borrow.Author.Tests.{ltb-true, ltb-false}
-use lib.Dec.{ltb}
 use Rattle.model.specs.Ranges.{joined}
 use Rattle.model.specs.Coordinates.{Place, place}
 use Rattle.model.specs.declared.Pen.{Pen}
 use Rattle.model.specs.declared.Point.{Point}
 use Rattle.model.specs.Lines.{visited, once}
 use Rattle.model.specs.Circles.{reflections, circlePoints, circleDot, circle}
-use Rattle.model.proofs.Decisions.{cond-ind}
 use Rattle.model.proofs.CircleLaws.{On, column-on, column-none, columnDots, columnDots-length, joined-rest, circle-dots}
 use Rattle.canvas.specs.declared.Target.{Target}
 use Rattle.canvas.specs.Canvas.{Canvas, Painted}
 use Rattle.canvas.proofs.LoopLaws.{Painting, painting-list, painting-hits}
 use Rattle.draw_circles.specs.declared.EighthPoint.{EighthPoint}
-use Rattle.draw_circles.specs.Eighths.{eighthPoint, nextPoint}
+use Rattle.draw_circles.specs.Eighths.{Along, Further}
 use Rattle.draw_circles.specs.Mirrors.{dotsAt}
 
 -- ## Products
@@ -35,38 +32,32 @@ product-before (suc j) h = let e : suc j - 1 ≡ j = omega arith in rw e (omega 
 
 -- ## Points of the walk
 
--- j × (j+1) + i² is so far above r², and less than 2j where the point is on the eighth
-pub record Along (r : ℕ) (p : EighthPoint) : Type 0 where
-  pub excess : p .excess + r * r ≡ p .j * (p .j + 1) + p .i * p .i
-  pub near : p .i ≤ p .j → p .excess < p .j + p .j
-  pub inside : p .j ≤ r
+abbrev pub eighthPoint : ℕ → ℕ → ℕ → EighthPoint
+eighthPoint i j excess = record { i = i; j = j; excess = excess }
 
 pub along-first : (r : ℕ) → r ≢ 0 → Along r (eighthPoint 0 r r)
 along-first r n = record { excess = omega arith; near = λ l. omega arith; inside = omega arith }
 
--- j falls by one at the most: where it stays at or above i + 1, one step down brings it back onto the circle
-along-next : (r : ℕ) (p : EighthPoint) → Along r p → p .i ≤ p .j → Along r (nextPoint p)
-unfolding nextPoint
-along-next r p a l = cond-ind (Along r) (ltb (p .excess + p .i + (p .i + 1)) (p .j + p .j)) _ _
-    (λ e. record { excess = omega (arith, a .excess); near = λ _. ltb-true _ _ e; inside = a .inside })
-    (λ e.
-    let n = a .near l in
-    let h = ltb-false (p .excess + p .i + (p .i + 1)) (p .j + p .j) e in
-    record {
-      excess = omega (arith, a .excess, product-fall (p .j) (omega arith), product-before (p .j) (omega arith));
-      near = λ b. omega arith;
-      inside = omega (arith, a .inside);
-    })
+-- a column further: j stays, or falls by one. It never has to fall further on the eighth: where it is at least i + 2, one is enough
+module _ (r : ℕ) (p : EighthPoint) (a : Along r p) where
+  pub along-stays : p .excess + p .i + (p .i + 1) < p .j + p .j → Along r (eighthPoint (p .i + 1) (p .j) (p .excess + p .i + (p .i + 1)))
+  along-stays h = record { excess = omega (arith, a .excess); near = λ l. h; inside = a .inside }
+
+  pub along-falls : p .i ≤ p .j → p .j + p .j ≤ p .excess + p .i + (p .i + 1)
+      → Along r (eighthPoint (p .i + 1) (p .j - 1) (p .excess + p .i + (p .i + 1) - p .j - p .j))
+  along-falls l h =
+      let n = a .near l in
+      record {
+        excess = omega (arith, a .excess, product-fall (p .j) (omega arith), product-before (p .j) (omega arith));
+        near = λ b. omega arith;
+        inside = omega (arith, a .inside);
+      }
 
 -- on the eighth, j is the one that passes for i
 along-on : (r : ℕ) (p : EighthPoint) → Along r p → p .i ≤ p .j → On r (p .i) (p .j)
 along-on r p a l =
     let n = a .near l in
     record { lower = omega (arith, a .excess, product-fall (p .j) (omega arith)); upper = omega (arith, a .excess) }
-
-pub next-column : (p : EighthPoint) → nextPoint p .i ≡ p .i + 1
-unfolding nextPoint
-next-column p = cond-ind (λ (q : EighthPoint). q .i ≡ p .i + 1) (ltb (p .excess + p .i + (p .i + 1)) (p .j + p .j)) _ _ (λ e. refl) (λ e. refl)
 
 -- ## The columns drawn
 
@@ -89,12 +80,12 @@ columns-past pen from r p a l k h =
     (column-none r k (p .j) (omega arith) (omega (arith, a .excess, let m : p .i * p .i ≤ k * k = mul-le-mul h h in m)))
 
 module _ (t : Target) (from : Point) (r : ℕ) (c₀ : Canvas) {c : Canvas} (p : EighthPoint) (w : Walking t from r c₀ c p) where
-  pub walking-next : {c′ : Canvas} → p .i ≤ p .j
-      → Painted t (dotsAt t from (once [] (reflections (p .i) (p .j)))) c c′ → Walking t from r c₀ c′ (nextPoint p)
-  walking-next l e = record {
-    along = along-next r p (w .along) l;
+  pub walking-next : {c′ : Canvas} {q : EighthPoint} → p .i ≤ p .j
+      → Painted t (dotsAt t from (once [] (reflections (p .i) (p .j)))) c c′ → Further p q → Walking t from r c₀ c′ q
+  walking-next l e f = record {
+    along = f .along r (w .along);
     drawn =
-        rw (next-column p)
+        rw (f .column)
         (painting-list (columnDots (t .pen) from r) c₀ (w .drawn) (omega (arith, w .along .inside)) (rw (reflections-column t from r p (w .along) l) at e));
   }
 

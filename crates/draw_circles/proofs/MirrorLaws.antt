@@ -59,8 +59,7 @@ unfolding pairOf once visited
 mirrored-once zero zero = refl
 mirrored-once zero (suc b) = simp (eqb-self b, eqb-self (suc b), ne-eqb (suc b) 0 (omega arith))
 mirrored-once (suc a) zero = simp (eqb-self a, eqb-self (suc a), ne-eqb (suc a) 0 (omega arith))
-mirrored-once (suc a) (suc b) =
-    simp (eqb-self a, eqb-self (suc a), eqb-self b, eqb-self (suc b), ne-eqb (suc a) 0 (omega arith), ne-eqb (suc b) 0 (omega arith))
+mirrored-once (suc a) (suc b) = simp (eqb-self a, eqb-self (suc a), ne-eqb (suc a) 0 (omega arith), ne-eqb (suc b) 0 (omega arith))
 
 -- .. and these with (y,x) mirrored are all reflections: on a diagonal, and beside it
 reflections-diagonal : (x : ℕ) → once [] (mirrored x x) ++ [] ≡ once [] (reflections x x)

@@ -1,15 +1,16 @@
 -- The walk along an eighth of the circle.
-use Prim.Native.Nat.{ℕ, _+_, _-_}
-use mathlib.Core.Bool.{cond}
-use lib.Dec.{ltb}
+use Prim.Native.Nat.{ℕ, _+_, _*_, _≤_, _<_}
+use mathlib.Core.Path.{_≡_}
 use Rattle.draw_circles.specs.declared.EighthPoint.{EighthPoint}
 
-abbrev pub eighthPoint : ℕ → ℕ → ℕ → EighthPoint
-eighthPoint i j excess = record { i = i; j = j; excess = excess }
+-- a point (i,j) of the walk for radius r: j × (j+1) + i² is above r² by the excess, and where the point is on
+-- the eighth, j × (j−1) + i², which is 2j less, is below it
+pub record Along (r : ℕ) (p : EighthPoint) : Type 0 where
+  pub excess : p .excess + r * r ≡ p .j * (p .j + 1) + p .i * p .i
+  pub near : p .i ≤ p .j → p .excess < p .j + p .j
+  pub inside : p .j ≤ r
 
--- i + 1 with the same j, or with j − 1 where j × (j+1) + (i+1)² is 2j or more above r²
-unfoldable pub nextPoint : EighthPoint → EighthPoint
-nextPoint p =
-    let excess = p .excess + p .i + (p .i + 1) in
-    cond (ltb excess (p .j + p .j)) (eighthPoint (p .i + 1) (p .j) excess)
-    (eighthPoint (p .i + 1) (p .j - 1) (excess - p .j - p .j))
+-- a column further on the same walk, whatever the radius
+pub record Further (p q : EighthPoint) : Type 0 where
+  pub column : q .i ≡ p .i + 1
+  pub along : (r : ℕ) → Along r p → Along r q

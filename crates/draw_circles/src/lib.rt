@@ -1,5 +1,4 @@
 // CIRCLE: a walk along an eighth of the circle, each of its points with its reflections.
-ghost use mathlib.Core.Path.{_≡_};
 ghost use mathlib.Core.List.{[]};
 ghost use Prim.Native.Nat.{_+_, _≤_, _<_};
 ghost use lib.IntN.{natAbs};
@@ -10,7 +9,7 @@ ghost use Rattle.model.specs.Circles.{mirrored, reflections, circle};
 ghost use Rattle.canvas.specs.Canvas.{canvas, Drew, Painted};
 ghost use Rattle.canvas.specs.Targets.{Ready};
 ghost use Rattle.draw_circles.specs.Mirrors.{Room, pairOf, dotsAt};
-ghost use Rattle.draw_circles.specs.Eighths.{nextPoint};
+ghost use Rattle.draw_circles.specs.Eighths.{Further};
 use canvas::Course;
 use canvas::Drawn;
 use canvas::Heading;
@@ -106,7 +105,7 @@ struct EighthPoint {
 // below r², j falls by one, and j × (j+1) by 2j. Nothing is multiplied.
 fn next_point(p: EighthPoint) -> EighthPoint
     requires { ⌜ (p .i ≤ p .j) × (p .j ≤ 32768) × (p .excess < p .j + p .j) ⌝ }
-    ensures { λ r. ⌜ r ≡ nextPoint p ⌝ }
+    ensures { λ q. ⌜ Further p q ⌝ }
 {
     let i = p.i + 1;
     let j = p.j;

@@ -6,7 +6,7 @@ use borrow.Author.Needs.{needs}
 use Rattle.model.specs.Ranges.{joined}
 use Rattle.canvas.specs.Canvas.{canvas, paintedAll}
 use Rattle.canvas.proofs.LoopLaws.{painting-lengths, painting-ready}
-use Rattle.draw_circles.proofs.EighthLaws.{Walking, along-first, walking-next, walking-done, walking-hits, next-column, circle-centre}
+use Rattle.draw_circles.proofs.EighthLaws.{Walking, along-first, walking-next, walking-done, walking-hits, circle-centre}
 use Rattle.draw_circles.proofs.ring.Statement.{statement}
 use Rattle.draw_circles.proofs.ring.Tie as tie
 
@@ -55,20 +55,21 @@ next-point-requires : tie.Need-next-point-requires Inv-loop μ-loop
 next-point-requires c κs =
     let t = c .before .before .before .before .before .before .before in
     let l = t .before .before in
-    (t .if2 .taken, in-range l, l .loop .inv .along .near (t .if2 .taken))
+    let h : l .loop .p .i ≤ l .loop .p .j = omega (arith, t .if2 .taken) in
+    (h, in-range l, l .loop .inv .along .near h)
 
 loop-less : tie.Need-loop-less Inv-loop μ-loop
 loop-less c =
     let t = c .before .before .before .before .before .before .before .before in
     let l = t .before .before in
-    rw (c .next-point .ensures, next-column (l .loop .p)) (omega (arith, l .loop .inv .along .inside, t .if2 .taken))
+    omega (arith, c .next-point .ensures .column, l .loop .inv .along .inside, t .if2 .taken)
 
 loop-again : tie.Need-loop-again Inv-loop μ-loop
 loop-again c =
     let e = c .before .before .before .before .before in
     let t = e .before .before .before in
     let l = t .before .before in
-    rw (c .next-point .ensures) (walking-next _ _ _ _ (l .loop .p) (l .loop .inv) (t .if2 .taken) (e .reflections2 .ensures))
+    walking-next _ _ _ _ (l .loop .p) (l .loop .inv) (omega (arith, t .if2 .taken)) (e .reflections2 .ensures) (c .next-point .ensures)
 
 same-length-3 : tie.Need-same-length-3 Inv-loop μ-loop
 same-length-3 c = painting-lengths _ (c .before .before .loop .inv .drawn) .screen
@@ -79,7 +80,7 @@ same-length-4 c = painting-lengths _ (c .before .before .loop .inv .drawn) .stor
 returns-2 : tie.Need-returns-2 Inv-loop μ-loop
 returns-2 c =
     let l = c .before .before in
-    walking-done _ _ _ _ (l .loop .p) (l .loop .inv) (l .before .if1 .left) (c .if2 .left)
+    walking-done _ _ _ _ (l .loop .p) (l .loop .inv) (l .before .if1 .left) (omega (arith, c .if2 .left))
 
 pub ring-spec : {M : Type 1} → statement M
 ring-spec =
