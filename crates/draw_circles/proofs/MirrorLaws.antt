@@ -10,6 +10,8 @@ use borrow.Author.Tests.{eq-eqb, ne-eqb}
 use lib.Dec.{eqb}
 use lib.ListN.{length, length-map}
 use Rattle.model.specs.Coordinates.{Place, place}
+use Rattle.model.proofs.OutlineLaws.{once-length, same-refl}
+use Rattle.coordinates.specs.Offsets.{directed}
 use Rattle.model.specs.declared.Point.{Point}
 use Rattle.model.specs.Lines.{visited, once}
 use Rattle.model.specs.Circles.{mirrored, reflections, circleDot}
@@ -40,16 +42,20 @@ module _ (t : Target) (centre : Point) (l : List Place) (c : Canvas) {c₁ : Can
 
 pub pair-length : (up : Bool) (o : Offset) → length (pairOf up o) ≤ 2
 unfolding pairOf
-pair-length up o = go (eqb (o .x) 0)
-  where
-    go : (b : Bool) → suc (length (cond b [] (reflected true up o ∷ []))) ≤ 2
-    go true = omega arith
-    go false = omega arith
+pair-length up o = once-length [] (reflected false up o ∷ reflected true up o ∷ [])
 
 -- ## Each place once
 
 eqb-self : (n : ℕ) → eqb n n ≡ true
 eqb-self n = eq-eqb n n refl
+
+-- (x,y) and (−x,y) are one place where x is 0
+pub pair-once : (up : Bool) (x y : ℕ) →
+    let o : Offset = record { x = x; y = y } in
+    reflected false up o ∷ cond (eqb x 0) [] (reflected true up o ∷ []) ≡ pairOf up o
+unfolding pairOf once visited
+pair-once up zero y = simp (same-refl (directed up y))
+pair-once up (suc a) y = simp (ne-eqb (suc a) 0 (omega arith))
 
 -- two pairs are (x,y) mirrored in the axes
 pub mirrored-once : (x y : ℕ) →
@@ -58,8 +64,8 @@ pub mirrored-once : (x y : ℕ) →
 unfolding pairOf once visited
 mirrored-once zero zero = refl
 mirrored-once zero (suc b) = simp (eqb-self b, eqb-self (suc b), ne-eqb (suc b) 0 (omega arith))
-mirrored-once (suc a) zero = simp (eqb-self a, eqb-self (suc a), ne-eqb (suc a) 0 (omega arith))
-mirrored-once (suc a) (suc b) = simp (eqb-self a, eqb-self (suc a), ne-eqb (suc a) 0 (omega arith), ne-eqb (suc b) 0 (omega arith))
+mirrored-once (suc a) zero = simp (eqb-self a, eqb-self (suc a))
+mirrored-once (suc a) (suc b) = simp (eqb-self a, eqb-self (suc a), ne-eqb (suc b) 0 (omega arith))
 
 -- .. and these with (y,x) mirrored are all reflections: on a diagonal, and beside it
 reflections-diagonal : (x : ℕ) → once [] (mirrored x x) ++ [] ≡ once [] (reflections x x)

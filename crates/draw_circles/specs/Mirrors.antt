@@ -1,10 +1,10 @@
 -- What the functions that draw reflections ask for and draw, beside model's definitions.
 use Prim.Native.Nat.{ℕ, _+_, _≤_}
-use mathlib.Core.Bool.{Bool, true, false, cond}
+use mathlib.Core.Bool.{Bool, true, false}
 use mathlib.Core.List.{List, [], _∷_, map}
-use lib.Dec.{eqb}
 use Rattle.model.specs.Coordinates.{Place, at, place}
 use Rattle.model.specs.Dots.{Dot}
+use Rattle.model.specs.Lines.{once}
 use Rattle.model.specs.Circles.{circleDot}
 use Rattle.model.specs.declared.Point.{Point}
 use Rattle.coordinates.specs.Offsets.{directed}
@@ -28,4 +28,4 @@ reflected left up o = at (directed left (o .x)) (directed up (o .y))
 
 -- (x,y) and (−x,y), each place once; y goes up or down
 unfoldable pub pairOf : Bool → Offset → List Place
-pairOf up o = reflected false up o ∷ cond (eqb (o .x) 0) [] (reflected true up o ∷ [])
+pairOf up o = once [] (reflected false up o ∷ reflected true up o ∷ [])

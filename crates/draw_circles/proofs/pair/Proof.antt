@@ -7,8 +7,8 @@ use borrow.Author.Tests.{eq-eqb, ne-eqb}
 use Rattle.model.specs.Coordinates.{Place}
 use Rattle.canvas.specs.Canvas.{Canvas, canvas, paintedAll}
 use Rattle.canvas.proofs.PaintLaws.{ready-painted}
-use Rattle.draw_circles.specs.Mirrors.{reflected, dotsAt, pairOf}
-use Rattle.draw_circles.proofs.MirrorLaws.{part-alone, part-both, part-room}
+use Rattle.draw_circles.specs.Mirrors.{reflected, dotsAt}
+use Rattle.draw_circles.proofs.MirrorLaws.{part-alone, part-both, part-room, pair-once}
 use Rattle.draw_circles.proofs.pair.Statement.{statement}
 use Rattle.draw_circles.proofs.pair.Tie as tie
 
@@ -26,11 +26,12 @@ abbrev left : tie.Start → List Place
 left s = reflected true (s .args .up) (s .args .o) ∷ []
 
 returns : tie.Need-returns
-unfolding pairOf paintedAll
+unfolding paintedAll
 returns c =
     let d = c .before .before .before .before .before .before in
     let s = entry d in
-    part-alone (s .args .t) (s .args .centre) (right s) (begin s) (d .draw-dot .ensures) (left s) (eq-eqb (s .args .o .x) 0 (c .if1 .taken))
+    rw (← pair-once (s .args .up) (s .args .o .x) (s .args .o .y))
+    (part-alone (s .args .t) (s .args .centre) (right s) (begin s) (d .draw-dot .ensures) (left s) (eq-eqb (s .args .o .x) 0 (c .if1 .taken)))
 
 draw-dot-requires-2 : tie.Need-draw-dot-requires-2
 unfolding paintedAll
@@ -45,14 +46,15 @@ draw-dot-requires-2 c κs =
     )
 
 returns-2 : tie.Need-returns-2
-unfolding pairOf paintedAll
+unfolding paintedAll
 returns-2 c =
     let l = c .before .before .before .before in
     let f = l .before .before .before in
     let d = f .before .before .before .before .before .before in
     let s = entry d in
-    part-both (s .args .t) (s .args .centre) (right s) (begin s) (d .draw-dot .ensures) (left s) (ne-eqb (s .args .o .x) 0 (f .if1 .left))
-    (l .draw-dot2 .ensures)
+    rw (← pair-once (s .args .up) (s .args .o .x) (s .args .o .y))
+    (part-both (s .args .t) (s .args .centre) (right s) (begin s) (d .draw-dot .ensures) (left s) (ne-eqb (s .args .o .x) 0 (f .if1 .left))
+    (l .draw-dot2 .ensures))
 
 pub pair-spec : {M : Type 1} → statement M
 pair-spec =
