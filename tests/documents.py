@@ -22,7 +22,7 @@ EXAMPLES = Path("examples")
 PANEL = Path("crates/panel/src/main.rt")
 
 # What the documents have now. Less means that a script, a listing or a picture is no longer found.
-LEAST = {"scripts": 35, "listings": 31, "commands": 96, "replies": 183, "pictures": 23, "paths": 50}
+LEAST = {"scripts": 41, "listings": 36, "commands": 142, "replies": 289, "pictures": 24, "paths": 50}
 counts = dict.fromkeys(LEAST, 0)
 wrong = []
 
@@ -197,16 +197,18 @@ def check_lists():
     sizes = command_sizes()
     labels = ["script", "script calls", "listing", "replies", "example", "font sheet", "part of the sheet"]
     console, preamble, sheet, parts = [], {}, {}, []
-    script, program = [], "panes"
+    script, program, unanswered = [], "panes", []
     for fence in fences(LISTS, labels):
         where = fence.where
         if fence.label.startswith("script"):
             script, program = fence.lines, "calls" if fence.label == "script calls" else "panes"
             console = console or script[: script.index("o") + 1]
+            unanswered.append(where)
         elif fence.label == "replies":
             counts["scripts"] += 1
             said = [re.split("  +", line)[0] for line in fence.lines]
             compare_replies(where, said, run(script, program))
+            del unanswered[-1:]
         elif fence.label == "listing":
             stored = read_listing(where, fence.lines, sizes)
             compare_bytes(where, stored, bytes_put(script))
@@ -218,6 +220,8 @@ def check_lists():
             parts.append((where, read_listing(where, fence.lines, sizes)))
         elif fence.label == "example":
             check_example(fence, sizes, console, preamble, sheet)
+    for where in unanswered:
+        wrong.append(f"{where}: no replies follow this script, so it is not run")
     for where, part in parts:
         compare_bytes(where, part, {place: sheet[place] for place in part if place in sheet})
 
@@ -259,10 +263,15 @@ READ = re.compile(r"`x,(\d+),0,0` to `x,\1,(\d+),(\d+)`")
 
 
 def check_example_page(script):
-    """The table has the script's lines with their replies; then each pane is read, as the picture shows."""
+    """The page names its program; the table has the script's lines with their replies; then each pane is read, as the
+    picture shows."""
     page = script.with_suffix(".md")
     check_commands(page)
     text = page.read_text()
+    programs = re.findall(rf"^    \./(panes|calls) {re.escape(str(script))}$", text, re.MULTILINE)
+    if len(programs) != 1:
+        wrong.append(f"{page}: one line says which program runs {script}; there are {len(programs)}")
+        return
     table = ROW.findall(text)
     panes = [(int(pane), int(x) + 1, int(y) + 1) for pane, x, y in READ.findall(text)]
     lines = [line for line, _ in table]
@@ -270,7 +279,7 @@ def check_example_page(script):
         lines += readings(*pane)
     compare("scripts", page, lines, script.read_text().splitlines())
 
-    found = run(lines)
+    found = run(lines, programs[0])
     said = [reply for _, reply in table if reply]
     compare_replies(page, said, found[: len(said)])
     pictures, start = [], len(said)

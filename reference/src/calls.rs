@@ -2,10 +2,12 @@
 //! alone; record and buffers keep every bit."
 
 use crate::bitmaps::Bitmap;
+use crate::judge::{self, Verdict};
 use crate::pixels::{Frame, Pane};
-use crate::record::{PaneRecord, MOST_RETURNS, RUNNING};
+use crate::record::{PaneRecord, RUNNING};
 use crate::setup::Console;
 use crate::step::{step, Outcome};
+use crate::table::Row;
 use crate::Refusal;
 use std::ops::Range;
 
@@ -100,18 +102,19 @@ pub fn start(
     address: u32,
 ) -> Result<(), Refusal> {
     let index = enter(console, screen, stores, pane)?;
+    check_start(&console.rows[index], address)?;
+    console.panes[index].start(address);
+    Ok(())
+}
+
+/// Start's own refusals: "3 odd, 2 not below the length".
+fn check_start(row: &Row, address: u32) -> Result<(), Refusal> {
     if address % 2 == 1 {
         return Err(Refusal(3));
     }
-    if address >= console.rows[index].store_length {
+    if address >= row.store_length {
         return Err(Refusal(2));
     }
-    let record = &mut console.panes[index];
-    record.pointer = address;
-    record.status = RUNNING;
-    record.fault = 0;
-    record.return_count = 0;
-    record.returns = [0; MOST_RETURNS as usize];
     Ok(())
 }
 
@@ -216,4 +219,23 @@ pub fn clear(
     let index = enter(console, screen, stores, pane)?;
     console.panes[index] = PaneRecord::fresh();
     Ok(())
+}
+
+/// "The judge, a call on a pane, starts at an address in its store, refused as
+/// start refuses it, as from a cleared pane." "It writes nothing."
+pub fn judge(
+    console: &Console,
+    screen: &[u8],
+    stores: &[u8],
+    pane: u32,
+    address: u32,
+) -> Result<Verdict, Refusal> {
+    let index = enter(console, screen, stores, pane)?;
+    check_start(&console.rows[index], address)?;
+    let frame = Frame {
+        geometry: console.geometry,
+        row: console.rows[index],
+    };
+    let store = &stores[store_range(console, index)];
+    Ok(judge::judge(&frame, store, address))
 }

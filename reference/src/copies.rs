@@ -65,44 +65,10 @@ impl Block {
 }
 
 impl Pane<'_> {
-    /// BIT_BLT: "29 a copy's dx or dy negative, its source outside its bitmap".
-    pub fn copy_within(&mut self, block: Block) -> Result<(), Fault> {
-        let active = self.record.bitmap;
-        if active == Bitmap::None {
-            return Err(Fault(23));
-        }
-        block.check_in(&active)?;
-        self.copy(&active, block);
-        Ok(())
-    }
-
-    /// "BIT_BLT_M does so from the bitmap it names, at the active depth." The
-    /// named bitmap keeps DEF_BITMAP's rule, or else the fault is 22.
-    pub fn copy_between(
-        &mut self,
-        address: u32,
-        xmax: u16,
-        ymax: u16,
-        block: Block,
-    ) -> Result<(), Fault> {
-        let active = self.record.bitmap;
-        if active == Bitmap::None {
-            return Err(Fault(23));
-        }
-        let source = Bitmap::named(address, xmax, ymax, active.bits());
-        if !self.allows(&source) {
-            return Err(Fault(22));
-        }
-        block.check_in(&source)?;
-        block.check_apart(&source, &active)?;
-        self.copy(&source, block);
-        Ok(())
-    }
-
     /// "BIT_BLT copies source (sx,sy) to (sx+dx,sy+dy), both corners in, to the
     /// position, as though all were read first; no pattern." "The position
     /// becomes (x+dx+spacing, y)".
-    fn copy(&mut self, source: &Bitmap, block: Block) {
+    pub fn copy(&mut self, source: &Bitmap, block: Block) {
         let (left, top) = (i64::from(block.x), i64::from(block.y));
         let (dx, dy) = (i64::from(block.dx), i64::from(block.dy));
         let mut values = Vec::new();
@@ -111,13 +77,14 @@ impl Pane<'_> {
                 values.push(self.pixel(source, left + i, top + j).unwrap_or(0));
             }
         }
-        let (x, y) = self.position();
+        let (x, y) = self.record.position();
         let mut value = values.into_iter();
         for j in 0..=dy {
             for i in 0..=dx {
                 self.draw(x + i, y + j, Source::Copied(value.next().unwrap_or(0)));
             }
         }
-        self.move_by(dx + i64::from(self.record.spacing), 0);
+        let spacing = i64::from(self.record.spacing);
+        self.record.move_by(dx + spacing, 0);
     }
 }

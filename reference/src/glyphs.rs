@@ -117,7 +117,7 @@ fn checked_glyph(store: &[u8], active: &Bitmap, address: u64) -> Result<Glyph, F
 /// The glyphs of a string, all checked before one is drawn. "In word mode (0A
 /// hex) a selector v names the descriptor at base + 2v; in byte mode (0B hex)
 /// code c names the word at base + 2c, whose value v is used so."
-fn string_glyphs(
+pub fn string_glyphs(
     store: &[u8],
     active: &Bitmap,
     font: Font,
@@ -145,31 +145,21 @@ fn string_glyphs(
 }
 
 impl Pane<'_> {
-    /// CHAR. The faults come in the order 23, 28, 25; "all is checked before
-    /// the first pixel".
-    pub fn draw_string(
-        &mut self,
-        transparent: bool,
-        address: u32,
-        count: u16,
-    ) -> Result<(), Fault> {
-        if self.record.bitmap == Bitmap::None {
-            return Err(Fault(23));
-        }
+    /// CHAR, whose string was checked: its glyphs, one after the other.
+    pub fn draw_string(&mut self, transparent: bool, address: u32, count: u16) {
         let Some(font) = self.record.font else {
-            return Err(Fault(28));
+            return;
         };
-        let glyphs = string_glyphs(self.store, &self.record.bitmap, font, address, count)?;
-        for glyph in glyphs {
+        let glyphs = string_glyphs(self.store, &self.record.bitmap, font, address, count);
+        for glyph in glyphs.unwrap_or_default() {
             self.draw_glyph(&glyph, transparent);
         }
-        Ok(())
     }
 
     /// Draws one character at the position and moves on. "Unless S, the
     /// position moves along the path"; "T sets the trap flag".
     fn draw_glyph(&mut self, glyph: &Glyph, transparent: bool) {
-        let (x, y) = self.position();
+        let (x, y) = self.record.position();
         for j in 0..glyph.height {
             for i in 0..glyph.width {
                 let (px, py) = cell_pixel(x, y, i, j, self.record.rotation);
@@ -188,7 +178,7 @@ impl Pane<'_> {
                 glyph.width,
                 glyph.height,
             );
-            self.move_by(dx, dy);
+            self.record.move_by(dx, dy);
         }
     }
 }

@@ -152,11 +152,6 @@ impl Pane<'_> {
         self.frame.pixel(self.screen, self.store, bitmap, x, y)
     }
 
-    /// Whether a bitmap keeps DEF_BITMAP's rule on this pane.
-    pub fn allows(&self, bitmap: &Bitmap) -> bool {
-        bitmap.keeps_rule(&self.frame.row, self.frame.geometry.depth)
-    }
-
     /// Draws a source on a pixel of the active bitmap. "A pixel is drawn if it
     /// lies in bitmap and clip". "In pick mode no pixel changes; the pick flag
     /// becomes 1 if some pixel would have been drawn, whatever mask and
@@ -215,17 +210,5 @@ impl Pane<'_> {
         for (x, y) in pixels {
             self.draw(x, y, source);
         }
-    }
-
-    /// The position as whole numbers.
-    pub fn position(&self) -> (i64, i64) {
-        (i64::from(self.record.x), i64::from(self.record.y))
-    }
-
-    /// "The position wraps at 16 bits."
-    pub fn move_by(&mut self, dx: i64, dy: i64) {
-        let (x, y) = self.position();
-        self.record.x = (x + dx) as i16;
-        self.record.y = (y + dy) as i16;
     }
 }

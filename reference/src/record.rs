@@ -80,6 +80,28 @@ impl PaneRecord {
         }
     }
 
+    /// What start leaves: "pointer at the address, status 1, fault 0, no return
+    /// addresses, the rest kept".
+    pub fn start(&mut self, address: u32) {
+        self.pointer = address;
+        self.status = RUNNING;
+        self.fault = 0;
+        self.return_count = 0;
+        self.returns = [0; MOST_RETURNS as usize];
+    }
+
+    /// The position as whole numbers.
+    pub fn position(&self) -> (i64, i64) {
+        (i64::from(self.x), i64::from(self.y))
+    }
+
+    /// "The position wraps at 16 bits."
+    pub fn move_by(&mut self, dx: i64, dy: i64) {
+        let (x, y) = self.position();
+        self.x = (x + dx) as i16;
+        self.y = (y + dy) as i16;
+    }
+
     /// Refusal 12: "the pane record has a status above 3; a fault outside 20
     /// to 29 at status 3 or not 0 elsewhere; a bitmap breaking DEF_BITMAP's
     /// rule; a clip value outside the bitmap, or not 0 without one; a font

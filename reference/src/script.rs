@@ -1,6 +1,7 @@
 //! The script programs: lines in, replies out.
 
 use crate::calls;
+use crate::judge::Verdict;
 use crate::setup::{set_up, Console};
 use crate::table::{Geometry, Row};
 use crate::Refusal;
@@ -17,8 +18,9 @@ pub enum Language {
     /// The paper's program, `panes`.
     #[default]
     Panes,
-    /// `calls`: the same, and a letter for each call that the paper gives none,
-    /// `k,pane,address` for peek and `c,pane` for clear.
+    /// `calls`: the same, and a letter for each call that the papers give none:
+    /// `k,pane,address` for peek, `c,pane` for clear and `j,pane,address` for
+    /// the judge.
     Calls,
 }
 
@@ -129,6 +131,7 @@ impl Session {
             _ if self.language == Language::Panes => None,
             [b"k", pane, address] => self.peek(decimal(pane)?, hex(address)?),
             [b"c", pane] => self.clear(decimal(pane)?),
+            [b"j", pane, address] => self.judge(decimal(pane)?, hex(address)?),
             _ => None,
         }
     }
@@ -243,6 +246,20 @@ impl Session {
         let console = self.console.as_mut()?;
         let reply = calls::clear(console, &self.screen, &self.stores, pane);
         Some(reply_line('c', reply.map(|()| String::new())))
+    }
+
+    /// j 0 and the commands walked if clean, else what was found and its
+    /// address, which prints in hex as pointers do.
+    fn judge(&self, pane: u32, address: u32) -> Option<String> {
+        let console = self.console.as_ref()?;
+        let reply = calls::judge(console, &self.screen, &self.stores, pane, address);
+        Some(reply_line(
+            'j',
+            reply.map(|verdict| match verdict {
+                Verdict::Clean { commands } => format!(",0,{commands}"),
+                Verdict::Found { number, address } => format!(",{number},{address:x}"),
+            }),
+        ))
     }
 }
 

@@ -3,10 +3,10 @@
 use crate::bitmaps::{Bitmap, Clip};
 use crate::circles::circle_pixels;
 use crate::decode::{decode, Command, Decoded};
-use crate::glyphs::check_bytes;
+use crate::faults::Scene;
 use crate::lines::{line_pixels, outline_pixels};
 use crate::pixels::Pane;
-use crate::record::{Font, ENDED, FAULTED, MOST_RETURNS};
+use crate::record::{Font, PaneRecord, ENDED, FAULTED};
 use crate::words::word_at;
 use crate::Fault;
 
@@ -34,15 +34,18 @@ pub fn step(pane: &mut Pane) -> Outcome {
         Decoded::Fault(fault) => return faulted(pane, fault),
         Decoded::Command(command, next) => (command, next),
     };
-    // Every command checks first and changes something only when no fault is
-    // left, so that a fault changes nothing.
-    match perform(pane, command, next) {
-        Ok(pointer) => {
-            pane.record.pointer = pointer;
-            Outcome::Done(command)
-        }
-        Err(fault) => faulted(pane, fault),
+    // "All is checked before the first pixel."
+    let scene = Scene {
+        frame: &pane.frame,
+        record: pane.record,
+        store: pane.store,
+    };
+    if let Err(fault) = scene.check(command) {
+        return faulted(pane, fault);
     }
+    draw(pane, command);
+    pane.record.pointer = settle(pane.record, command, next);
+    Outcome::Done(command)
 }
 
 fn faulted(pane: &mut Pane, fault: Fault) -> Outcome {
@@ -51,195 +54,174 @@ fn faulted(pane: &mut Pane, fault: Fault) -> Outcome {
     Outcome::Faulted(fault)
 }
 
-/// Does a command and answers where the pointer goes; next is the address of
-/// the word after the command.
-fn perform(pane: &mut Pane, command: Command, next: u32) -> Result<u32, Fault> {
+/// What a command that draws nothing makes of the record; a drawing command
+/// does that where it draws. The command was checked. Answers where the pointer
+/// goes; next is the address of the word after the command.
+pub fn settle(record: &mut PaneRecord, command: Command, next: u32) -> u32 {
     match command {
-        Command::Nop => {}
         // "LINK sets the pointer."
-        Command::Link { target } => return Ok(target),
+        Command::Link { target } => return target,
         // "CALL keeps the next address, eight at most."
         Command::Call { target } => {
-            let kept = pane.record.return_count;
-            if kept >= MOST_RETURNS {
-                return Err(Fault(26));
+            let kept = record.return_count;
+            if let Some(slot) = record.returns.get_mut(kept as usize) {
+                *slot = next;
+                record.return_count = kept + 1;
             }
-            pane.record.returns[kept as usize] = next;
-            pane.record.return_count = kept + 1;
-            return Ok(target);
+            return target;
         }
         // "RETURN takes the latest back."
         Command::Return => {
-            let kept = pane.record.return_count;
-            if kept == 0 {
-                return Err(Fault(27));
-            }
-            let latest = (kept - 1) as usize;
-            let target = pane.record.returns[latest];
-            pane.record.returns[latest] = 0;
-            pane.record.return_count = kept - 1;
-            return Ok(target);
+            record.return_count = record.return_count.saturating_sub(1);
+            return std::mem::take(&mut record.returns[record.return_count as usize]);
         }
         Command::AbsMov { x, y } => {
-            pane.record.x = x;
-            pane.record.y = y;
+            record.x = x;
+            record.y = y;
         }
-        Command::RelMov { dx, dy } => pane.move_by(i64::from(dx), i64::from(dy)),
-        // "DEF_BITMAP: 22 rule broken." "It sets the clip to the whole bitmap."
+        Command::RelMov { dx, dy } => record.move_by(i64::from(dx), i64::from(dy)),
+        // "It sets the clip to the whole bitmap."
         Command::DefBitmap {
             address,
             xmax,
             ymax,
             bits,
         } => {
-            let bitmap = Bitmap::named(address, xmax, ymax, bits);
-            if !pane.allows(&bitmap) {
-                return Err(Fault(22));
-            }
-            pane.record.bitmap = bitmap;
-            pane.record.clip = Clip::whole(&bitmap);
+            record.bitmap = Bitmap::named(address, xmax, ymax, bits);
+            record.clip = Clip::whole(&record.bitmap);
         }
-        // "DEF_CLIP_RECT: 23 no bitmap, 24 outside it."
         Command::DefClipRect {
             xmin,
             ymin,
             xmax,
             ymax,
         } => {
-            need_bitmap(pane)?;
-            let clip = Clip {
+            record.clip = Clip {
                 xmin,
                 ymin,
                 xmax,
                 ymax,
-            };
-            if !clip.lies_in(&pane.record.bitmap) {
-                return Err(Fault(24));
             }
-            pane.record.clip = clip;
         }
         Command::DefColors {
             foreground,
             background,
         } => {
-            pane.record.foreground = foreground;
-            pane.record.background = background;
+            record.foreground = foreground;
+            record.background = background;
         }
         // "The low four bits of the code count."
         Command::DefLogicalOp { mask, code } => {
-            pane.record.mask = mask;
-            pane.record.operation = u32::from(code & 0xF);
+            record.mask = mask;
+            record.operation = u32::from(code & 0xF);
         }
         Command::DefTexture {
             transparent,
             pattern,
         } => {
-            pane.record.transparent = transparent;
-            pane.record.pattern = pattern;
+            record.transparent = transparent;
+            record.pattern = pattern;
         }
-        Command::DefSpace { spacing } => pane.record.spacing = spacing,
+        Command::DefSpace { spacing } => record.spacing = spacing,
         Command::DefCharOrient { path, rotation } => {
-            pane.record.path = path;
-            pane.record.rotation = rotation;
+            record.path = path;
+            record.rotation = rotation;
         }
-        // "DEF_CHAR_SET: 25 odd base."
-        Command::DefCharSet { byte_mode, base } => {
-            if base % 2 == 1 {
-                return Err(Fault(25));
-            }
-            pane.record.font = Some(Font { base, byte_mode });
-        }
+        Command::DefCharSet { byte_mode, base } => record.font = Some(Font { base, byte_mode }),
         // "ENTER_PICK clears it; EXIT_PICK keeps it."
         Command::EnterPick => {
-            pane.record.pick_mode = true;
-            pane.record.pick_flag = false;
+            record.pick_mode = true;
+            record.pick_flag = false;
         }
-        Command::ExitPick => pane.record.pick_mode = false,
+        Command::ExitPick => record.pick_mode = false,
+        Command::Nop
+        | Command::Point { .. }
+        | Command::Line { .. }
+        | Command::Rect { .. }
+        | Command::Circle { .. }
+        | Command::Polyline { .. }
+        | Command::ScanLines { .. }
+        | Command::BitBlt { .. }
+        | Command::BitBltM { .. }
+        | Command::Char { .. } => {}
+    }
+    next
+}
+
+/// Draws what a drawing command draws, and leaves position and flags as it
+/// does; any other command draws nothing. The command was checked.
+fn draw(pane: &mut Pane, command: Command) {
+    match command {
         // "POINT moves by (dx,dy) and draws one pixel, pattern index 0."
         Command::Point { dx, dy } => {
-            need_bitmap(pane)?;
-            pane.move_by(i64::from(dx), i64::from(dy));
-            let position = pane.position();
+            pane.record.move_by(i64::from(dx), i64::from(dy));
+            let position = pane.record.position();
             pane.draw_patterned(std::iter::once(position));
         }
-        Command::Line { dx, dy } => {
-            need_bitmap(pane)?;
-            line(pane, i64::from(dx), i64::from(dy));
-        }
+        Command::Line { dx, dy } => line(pane, i64::from(dx), i64::from(dy)),
         // "The position stays."
         Command::Rect { dx, dy } => {
-            need_bitmap(pane)?;
-            let (x, y) = pane.position();
+            let (x, y) = pane.record.position();
             pane.draw_patterned(outline_pixels(x, y, i64::from(dx), i64::from(dy)));
         }
-        // "CIRCLE … centred on the position, with the position unchanged." "A
-        // negative radius is fault 30, after 23."
+        // "CIRCLE … centred on the position, with the position unchanged."
         Command::Circle { radius } => {
-            need_bitmap(pane)?;
-            if radius < 0 {
-                return Err(Fault(30));
-            }
-            let (x, y) = pane.position();
+            let (x, y) = pane.record.position();
             pane.draw_plain(circle_pixels(x, y, i64::from(radius)));
         }
         // "POLYLINE draws its N pairs as LINEs, the pattern begun anew at each."
         Command::Polyline { address, count } => {
-            need_bitmap(pane)?;
-            for pair in array(pane, address, count, 2)?.chunks_exact(2) {
-                line(pane, pair[0], pair[1]);
+            for [dx, dy] in array(pane, address, count) {
+                line(pane, dx, dy);
             }
         }
         // "SCAN_LINES: each triple dx, dy, length moves by (dx,dy) and draws a
         // horizontal LINE by length; the position stays at that line's start."
         Command::ScanLines { address, count } => {
-            need_bitmap(pane)?;
-            for triple in array(pane, address, count, 3)?.chunks_exact(3) {
-                pane.move_by(triple[0], triple[1]);
-                let (x, y) = pane.position();
-                pane.draw_patterned(line_pixels(x, y, triple[2], 0));
+            for [dx, dy, length] in array(pane, address, count) {
+                pane.record.move_by(dx, dy);
+                let (x, y) = pane.record.position();
+                pane.draw_patterned(line_pixels(x, y, length, 0));
             }
         }
-        Command::BitBlt { block } => pane.copy_within(block)?,
+        Command::BitBlt { block } => {
+            let active = pane.record.bitmap;
+            pane.copy(&active, block);
+        }
+        // "BIT_BLT_M does so from the bitmap it names, at the active depth."
         Command::BitBltM {
             address,
             xmax,
             ymax,
             block,
-        } => pane.copy_between(address, xmax, ymax, block)?,
+        } => {
+            let bits = pane.record.bitmap.bits();
+            pane.copy(&Bitmap::named(address, xmax, ymax, bits), block);
+        }
         Command::Char {
             transparent,
             address,
             count,
-        } => pane.draw_string(transparent, address, count)?,
-    }
-    Ok(next)
-}
-
-/// "Drawing commands: 23": no bitmap.
-fn need_bitmap(pane: &Pane) -> Result<(), Fault> {
-    if pane.record.bitmap == Bitmap::None {
-        Err(Fault(23))
-    } else {
-        Ok(())
+        } => pane.draw_string(transparent, address, count),
+        _ => {}
     }
 }
 
 /// Draws a LINE. "The position ends at the far end."
 fn line(pane: &mut Pane, dx: i64, dy: i64) {
-    let (x, y) = pane.position();
+    let (x, y) = pane.record.position();
     pane.draw_patterned(line_pixels(x, y, dx, dy));
-    pane.move_by(dx, dy);
+    pane.record.move_by(dx, dy);
 }
 
 /// The array of a POLYLINE or SCAN_LINES: so many groups of signed words, all
-/// checked (fault 25) and read before the first pixel.
-fn array(pane: &Pane, address: u32, count: u16, group: u64) -> Result<Vec<i64>, Fault> {
-    let (start, words) = (u64::from(address), u64::from(count) * group);
-    check_bytes(pane.store, &pane.record.bitmap, start, 2 * words, false)?;
-    (0..words)
-        .map(|k| {
-            let word = word_at(pane.store, start + 2 * k).ok_or(Fault(25))?;
-            Ok(i64::from(word as i16))
-        })
+/// read before the first pixel.
+fn array<const GROUP: usize>(pane: &Pane, address: u32, count: u16) -> Vec<[i64; GROUP]> {
+    let word = |k: usize| {
+        let at = u64::from(address) + 2 * k as u64;
+        i64::from(word_at(pane.store, at).unwrap_or(0) as i16)
+    };
+    (0..usize::from(count))
+        .map(|group| std::array::from_fn(|k| word(GROUP * group + k)))
         .collect()
 }

@@ -4,7 +4,7 @@
 mod bench;
 use bench::*;
 use reference::generator::{script, stats::Stats};
-use reference::script::{answer, Language, LONGEST_SCRIPT};
+use reference::script::{answer, lines_of, Language, LONGEST_SCRIPT};
 
 /// A short sequence of random numbers.
 struct Numbers(u64);
@@ -175,5 +175,39 @@ fn random_scripts_of_calls_peek_and_clear() {
     }
     assert!(stats.peeks_of_drawn >= 100);
     let panes = Stats::of(Language::Panes, 150);
-    assert!(panes.refusals.keys().all(|key| !"kc".contains(key.0)));
+    assert!(panes.refusals.keys().all(|key| !"kcj".contains(key.0)));
+}
+
+/// They judge lists that are clean, up to the last command that is walked, and
+/// lists with every fault; most verdicts are then put to the test by a run.
+#[test]
+fn random_scripts_of_calls_judge() {
+    let stats = Stats::of(Language::Calls, 300);
+    for refusal in 0..=3 {
+        let times = stats.refusals.get(&('j', refusal));
+        assert!(times.is_some_and(|times| *times >= 10), "j,{refusal}");
+    }
+    for verdict in (20..=32).chain([0]) {
+        let times = stats.verdicts.get(&verdict);
+        assert!(times.is_some_and(|times| *times >= 10), "verdict {verdict}");
+    }
+    assert!(stats.clean_at_limit >= 20);
+    assert!(stats.verdicts_run >= 500);
+}
+
+/// Those of `panes` have lines with the letters of `calls`, which it does not
+/// take.
+#[test]
+fn random_scripts_of_panes_have_letters_of_calls() {
+    let mut found = [0; 3];
+    for seed in 1..=300 {
+        let text = script(Language::Panes, seed);
+        for (times, letter) in found.iter_mut().zip([b"k,", b"c,", b"j,"]) {
+            *times += lines_of(&text)
+                .iter()
+                .filter(|line| line.starts_with(letter))
+                .count();
+        }
+    }
+    assert!(found.iter().all(|times| *times >= 5), "{found:?}");
 }

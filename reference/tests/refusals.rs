@@ -5,6 +5,7 @@ mod bench;
 use bench::*;
 use reference::bitmaps::{Bitmap, Clip};
 use reference::calls::RunReply;
+use reference::judge::Verdict;
 use reference::record::{Font, PaneRecord};
 use reference::Refusal;
 
@@ -37,6 +38,7 @@ fn refused(change: impl Fn(&mut Bench)) -> u32 {
     assert_eq!(bench.pixel(9, 0, 0), Err(Refusal(number)));
     assert_eq!(bench.peek(9, 0), Err(Refusal(number)));
     assert_eq!(bench.clear(9), Err(Refusal(number)));
+    assert_eq!(bench.judge(9, 1), Err(Refusal(number)));
     assert_eq!(bench, before);
     number
 }
@@ -213,6 +215,7 @@ fn refusal_1_no_such_pane() {
         assert_eq!(bench.pixel(pane, 0, 0), Err(Refusal(1)));
         assert_eq!(bench.peek(pane, 0), Err(Refusal(1)));
         assert_eq!(bench.clear(pane), Err(Refusal(1)));
+        assert_eq!(bench.judge(pane, 1), Err(Refusal(1)));
     }
     assert_eq!(bench, before);
 }
@@ -234,6 +237,7 @@ fn unsound(change: impl Fn(&mut PaneRecord)) -> bool {
     assert_eq!(bench.pixel(0, 99, 0), Err(no));
     assert_eq!(bench.peek(0, 999), Err(no));
     assert_eq!(bench.clear(0), Err(no));
+    assert_eq!(bench.judge(0, 1), Err(no));
     assert_eq!(bench, before);
     // The other pane is not touched by it.
     assert!(bench.look(1).is_ok());
@@ -462,6 +466,25 @@ fn refusals_3_and_2_start() {
     let mut bench = Bench::open(8, 8, 1, &[row(0, 0, 8, 8, 0, 0)]);
     assert_eq!(bench.start(0, 0), Err(Refusal(2)));
     assert_eq!(bench.put(0, 0, &[]), Ok(()));
+}
+
+/// "Refused as start refuses it."
+#[test]
+fn refusals_3_and_2_judge() {
+    let mut bench = two();
+    bench.put_words(62, &[0x0001]);
+    let before = bench.clone();
+    // 3 comes before 2.
+    assert_eq!(bench.judge(0, 65), Err(Refusal(3)));
+    assert_eq!(bench.judge(0, 1), Err(Refusal(3)));
+    assert_eq!(bench.judge(0, u32::MAX), Err(Refusal(3)));
+    assert_eq!(bench.judge(0, 64), Err(Refusal(2)));
+    assert_eq!(bench.judge(0, u32::MAX - 1), Err(Refusal(2)));
+    assert_eq!(bench.judge(0, 62), Ok(Verdict::Clean { commands: 0 }));
+    assert_eq!(bench, before);
+    // Nothing can be judged in an empty store.
+    let bench = Bench::open(8, 8, 1, &[row(0, 0, 8, 8, 0, 0)]);
+    assert_eq!(bench.judge(0, 0), Err(Refusal(2)));
 }
 
 #[test]

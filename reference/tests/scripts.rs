@@ -25,11 +25,12 @@ fn scripts(folder: &Path) -> Vec<(String, Vec<u8>, String)> {
     found
 }
 
-/// Whether a script has a line that begins as one of peek or clear.
-fn has_peek_or_clear(script: &[u8]) -> bool {
+/// Whether a script has a line that begins with a letter of `calls` alone, for
+/// peek, clear or the judge.
+fn has_letter_of_calls(script: &[u8]) -> bool {
     lines_of(script)
         .iter()
-        .any(|line| line.starts_with(b"k") || line.starts_with(b"c"))
+        .any(|line| matches!(line.first(), Some(b'k' | b'c' | b'j')))
 }
 
 #[test]
@@ -48,7 +49,7 @@ fn scripts_reply_as_written() {
     assert!(scripts.len() >= 30);
     for (name, script, replies) in scripts {
         assert_eq!(answer(Language::Panes, &script), replies, "script {name}");
-        if !has_peek_or_clear(&script) {
+        if !has_letter_of_calls(&script) {
             assert_eq!(answer(Language::Calls, &script), replies, "script {name}");
         }
         assert!(list.contains(&format!("`{name}`")), "{name} is not listed");
@@ -60,22 +61,22 @@ fn scripts_of_calls_reply_as_written() {
     let folder = folder("tests/calls");
     let list = fs::read_to_string(folder.join("README.md")).unwrap();
     let scripts = scripts(&folder);
-    assert!(scripts.len() >= 4);
+    assert!(scripts.len() >= 13);
     for (name, script, replies) in scripts {
         assert_eq!(answer(Language::Calls, &script), replies, "script {name}");
         assert!(list.contains(&format!("`{name}`")), "{name} is not listed");
     }
 }
 
-/// "A malformed line … prints ? and does nothing": the paper has no letter for
-/// peek and clear.
+/// "A malformed line … prints ? and does nothing": the papers have no letter
+/// for peek, clear and the judge.
 #[test]
-fn panes_takes_neither_peek_nor_clear() {
+fn panes_takes_no_peek_clear_or_judge() {
     let opened = "s,8,2,1\np,0,0,8,2,16\no\ng,0,2\n";
-    let script = format!("{opened}k,0,0\nc,0\nl,0\n");
-    let replies = "o,0\ng,0\n?\n?\nl,0,1,0,2,0,0,0,0\n";
+    let script = format!("{opened}k,0,0\nj,0,4\nj,0,5\nc,0\nl,0\n");
+    let replies = "o,0\ng,0\n?\n?\n?\n?\nl,0,1,0,2,0,0,0,0\n";
     assert_eq!(answer(Language::Panes, script.as_bytes()), replies);
-    let replies = "o,0\ng,0\nk,0,0\nc,0\nl,0,0,0,0,0,0,0,0\n";
+    let replies = "o,0\ng,0\nk,0,0\nj,0,20,4\nj,3\nc,0\nl,0,0,0,0,0,0,0,0\n";
     assert_eq!(answer(Language::Calls, script.as_bytes()), replies);
 }
 
@@ -85,7 +86,7 @@ fn scripts_of_panes_are_scripts_of_calls() {
     let mut compared = 0;
     for seed in 1..=200 {
         let text = script(Language::Panes, seed);
-        if !has_peek_or_clear(&text) {
+        if !has_letter_of_calls(&text) {
             let replies = answer(Language::Panes, &text);
             assert_eq!(answer(Language::Calls, &text), replies, "seed {seed}");
             compared += 1;

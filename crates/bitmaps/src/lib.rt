@@ -19,7 +19,7 @@ ghost use Rattle.model.specs.Bitmaps.{paneBitmapBad, storeBitmapBad, ruleBroken
 ghost use Rattle.model.specs.Faults.{noBitmap, clipBeyond, clipOutside, bytesBad, arrayBad};
 
 // The address that means the pane.
-const PANE_ADDRESS: u32 = 0x200000;
+pub const PANE_ADDRESS: u32 = 0x200000;
 
 // Whether so many bits per pixel are a depth: 1, 2, 4 or 8.
 pub fn is_depth(bits: u32) -> bool

@@ -1,5 +1,5 @@
-// What the calls of the console have in common: admission, what they answer, a refusal, a pane record
-// replaced, and a fresh one.
+// What the calls of the console have in common: admission, what they answer, a refusal, the address where a list
+// begins, a pane record replaced, and a fresh one.
 use model::Bitmap;
 use model::Clip;
 use model::Console;
@@ -16,14 +16,19 @@ use model::STATUS_PARKED;
 use model::Text;
 use refusals::call::call_refusal;
 use words::either;
+use words::number_if;
 ghost use mathlib.Core.Path.{_≡_};
 ghost use Prim.Native.Nat.{_<_};
 ghost use Rattle.model.specs.Record.{fresh};
+ghost use Rattle.model.specs.Calls.{startRefusal};
 ghost use Rattle.call_common.specs.Admissions.{Admits};
 ghost use Rattle.call_common.specs.Answers.{turnedAway, replaced};
 
 // An address, or bytes from it on, past the end of the store.
 pub const REFUSE_END: u8 = 2;
+
+// An odd address.
+const REFUSE_ODD: u8 = 3;
 
 // The operation "replace": a new bit is the source bit.
 const REPLACE: u8 = 5;
@@ -46,6 +51,18 @@ pub fn admit(screen: usize, stores: usize, console: Console, number: u32) -> Adm
     let row = console.rows[k];
     let pane = console.panes[k];
     Admission { refusal, row, pane }
+}
+
+// The refusal of an address where a list is to begin: 3 if it is odd, 2 if it is not below the store's length,
+// or 0.
+pub fn start_refusal(row: Row, address: u32) -> u8
+    ensures { λ r. ⌜ r ≡ startRefusal row address ⌝ }
+{
+    number_if(
+        address % 2 == 1,
+        REFUSE_ODD,
+        number_if(row.len <= address, REFUSE_END, 0),
+    )
 }
 
 // What every call answers: the console record after it, and its reply.

@@ -1,36 +1,19 @@
 // Start: a pane set to run from an address of its store.
 use call_common::Answered;
-use call_common::REFUSE_END;
 use call_common::admit;
 use call_common::refused;
+use call_common::start_refusal;
 use call_common::with_record;
 use model::Console;
 use model::Pane;
 use model::Progress;
 use model::Reply;
 use model::Returns;
-use model::Row;
 use model::STATUS_RUNNING;
-use words::number_if;
 ghost use mathlib.Core.Path.{_≡_};
-ghost use Rattle.model.specs.Calls.{exec, on, ownRefusal, started};
+ghost use Rattle.model.specs.Calls.{exec, on, started};
 ghost use Rattle.model.specs.Calls as calls;
-ghost use Rattle.model.specs.declared.Pane.{Pane};
 ghost use Rattle.call_common.specs.Answers.{state, answer};
-
-// An odd address.
-const REFUSE_ODD: u8 = 3;
-
-// Start's own refusal: 3 if the address is odd, 2 if it is not below the store's length, or 0.
-fn start_refusal(row: Row, address: u32) -> u8
-    ensures { λ r. ⌜ ((p : Pane) → r ≡ ownRefusal row p (calls.start address)) ⌝ }
-{
-    number_if(
-        address % 2 == 1,
-        REFUSE_ODD,
-        number_if(row.len <= address, REFUSE_END, 0),
-    )
-}
 
 // The pane record with the pointer at the address, status 1, fault 0, no return addresses, the rest kept.
 fn started(pane: Pane, address: u32) -> Pane

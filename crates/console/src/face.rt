@@ -70,3 +70,10 @@ fn clear(screen: &[u8], stores: &[u8], console: Console, number: u32) -> Answere
 {
     crate::clear(screen, stores, console, number)
 }
+
+fn judge(screen: &[u8], stores: &[u8], console: Console, number: u32, address: u32) -> Answered
+    ensures { λ r. ⌜ answer r (now (screen .entry)) (now (stores .entry))
+        ≡ exec (state console (now (screen .entry)) (now (stores .entry))) (on number (calls.judge address)) ⌝ }
+{
+    crate::judge(screen, stores, console, number, address)
+}

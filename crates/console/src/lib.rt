@@ -6,6 +6,7 @@ mod face; // face.rt: every call called once by the name that it has here
 // What a caller names: the calls, what they answer, and a fresh pane record.
 pub use call_common::Answered;
 pub use call_common::fresh;
+pub use call_judge::judge;
 pub use call_pixel::pixel;
 pub use call_record::clear::clear;
 pub use call_record::look::look;

@@ -1,3 +1,3 @@
--- Laws of what is asked before a command is judged, and of BIT_BLT_M's faults.
-pub mod JudgingLaws
+-- Laws of what is asked before a fault is looked for, and of BIT_BLT_M's faults.
+pub mod CheckingLaws
 pub mod CopyLaws

@@ -1,2 +1,2 @@
 -- What the contracts of `faults` cite beside model's definitions.
-pub mod Judging
+pub mod Checking

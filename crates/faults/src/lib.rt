@@ -5,10 +5,10 @@ use model::Bitmap;
 use model::Block;
 use model::Clip;
 use model::Command;
+use model::Context;
 use model::Font;
 use model::Frame;
 use model::Pane;
-use model::Returns;
 use model::Row;
 use words::number_if;
 ghost use mathlib.Core.Path.{_≡_};
@@ -40,11 +40,12 @@ ghost use Rattle.model.specs.Faults.{
   stringBad,
   descriptorsBad,
   copyFault,
+  contextOf,
   faultOf,
 };
 ghost use Rattle.bitmaps.specs.Areas.{Active};
 ghost use Rattle.fault_text.specs.Reading.{StringAddressed};
-ghost use Rattle.faults.specs.Judging.{clipOf, Judged};
+ghost use Rattle.faults.specs.Checking.{clipOf, Checkable};
 
 // "DEF_BITMAP: 22 rule broken", and so for BIT_BLT_M's source.
 const FAULT_BITMAP: u8 = 22;
@@ -85,17 +86,17 @@ fn font_fault(base: u32) -> u8
 }
 
 // CALL's fault.
-fn call_fault(kept: Returns) -> u8
-    ensures { λ f. ⌜ f ≡ cond (leb 8 (kept .count)) faultCall 0 ⌝ }
+fn call_fault(kept: u8) -> u8
+    ensures { λ f. ⌜ f ≡ cond (leb 8 kept) faultCall 0 ⌝ }
 {
-    number_if(8 <= kept.count, FAULT_CALL, 0)
+    number_if(8 <= kept, FAULT_CALL, 0)
 }
 
 // RETURN's fault.
-fn return_fault(kept: Returns) -> u8
-    ensures { λ f. ⌜ f ≡ cond (eqb (kept .count) 0) faultReturn 0 ⌝ }
+fn return_fault(kept: u8) -> u8
+    ensures { λ f. ⌜ f ≡ cond (eqb kept 0) faultReturn 0 ⌝ }
 {
-    number_if(kept.count == 0, FAULT_RETURN, 0)
+    number_if(kept == 0, FAULT_RETURN, 0)
 }
 
 // DEF_BITMAP's fault.
@@ -203,16 +204,30 @@ fn copy_fault(f: Frame, active: Bitmap, source: Bitmap, b: Block) -> u8
 
 // ---- All commands
 
-// A command's fault, or 0 for none.
-pub fn fault_of(store: &[u8], f: Frame, p: Pane, c: Command) -> u8
-    requires { ⌜ Judged (f .geometry) (f .row) p (length (now store)) × Addressed c ⌝ }
-    ensures { λ n. ⌜ n ≡ faultOf (f .geometry) (f .row) p (now (store .entry)) c ⌝ }
+// What of a record the faults of a command depend on.
+pub fn context_of(p: Pane) -> Context
+    ensures { λ x. ⌜ x ≡ contextOf p ⌝ }
 {
-    let r = f.row;
-    let active = p.bitmap;
-    let kept = p.returns;
+    let bitmap = p.bitmap;
     let text = p.text;
     let font = text.font;
+    let returns = p.returns;
+    Context {
+        bitmap,
+        font,
+        kept: returns.count,
+    }
+}
+
+// A command's fault, or 0 for none.
+pub fn fault_of(store: &[u8], f: Frame, x: Context, c: Command) -> u8
+    requires { ⌜ Checkable (f .geometry) (f .row) x (length (now store)) × Addressed c ⌝ }
+    ensures { λ n. ⌜ n ≡ faultOf (f .geometry) (f .row) x (now (store .entry)) c ⌝ }
+{
+    let r = f.row;
+    let active = x.bitmap;
+    let font = x.font;
+    let kept = x.kept;
     match c {
         Command::Link { address: _ } => 0,
         Command::Nop => 0,

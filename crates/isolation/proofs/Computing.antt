@@ -9,8 +9,9 @@ use Rattle.model.specs.Copies.{seen, copyDots, copy, blockBad}
 use Rattle.model.specs.Commands.{opcodeOf, commandOf, fetch, decode}
 use Rattle.model.specs.Faults.{clipOutside, faultOf}
 use Rattle.model.specs.Effects.{effectOf}
-use Rattle.model.specs.Steps.{madeBy, planOf, judged, obey, step}
+use Rattle.model.specs.Steps.{madeBy, planOf, attempted, obey, step}
 use Rattle.model.specs.Runs.{stepped, follow, runs}
+use Rattle.model.specs.Judge.{barredFault, judgedFault, recordAfter, judgedCommand, met, metLast, listWalk, verdictOf}
 use Rattle.model.specs.Setup.{geometryBad, rectangleBad, storeBad, sharePixel, shareByte, checks, progressBad, paneBad}
 use Rattle.model.specs.Calls.{part, inPart, ownRefusal, onPane, rowOf, recordOf, storeOf, setupRefusal, callChecks, refusal, withPane, accepted, exec, setUp}
 use Rattle.isolation.specs.TwoRuns.{after, callsOn, repliesOn, Accepted, SamePixels, storeIn}
@@ -19,7 +20,7 @@ unfoldable pub machine : Unit {0}
 unfolding anyBelow listed joined bit num bitAt fieldAt splice putField gridBit placeBit placeShift inside pixels paneSurface surfaceOf paneBitmapBad
     ruleBroken
     blend change changes visible hits changesOf lineDots line seen copyDots copy blockBad opcodeOf commandOf fetch decode clipOutside faultOf effectOf madeBy
-    planOf judged obey step stepped follow runs geometryBad rectangleBad storeBad sharePixel shareByte checks progressBad paneBad part inPart ownRefusal
+    planOf attempted obey step stepped follow runs barredFault judgedFault recordAfter judgedCommand met metLast listWalk verdictOf geometryBad rectangleBad storeBad sharePixel shareByte checks progressBad paneBad part inPart ownRefusal
     onPane
     rowOf recordOf storeOf setupRefusal callChecks refusal withPane accepted exec setUp after callsOn repliesOn Accepted SamePixels storeIn
 machine = tt

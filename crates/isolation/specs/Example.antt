@@ -10,7 +10,7 @@ use lib.ListN.{replicate}
 use Rattle.model.specs.declared.Geometry.{Geometry}
 use Rattle.model.specs.declared.Row.{Row}
 use Rattle.model.specs.Replies.{Response, refusedWith, acceptedWith, natural, address}
-use Rattle.model.specs.Calls.{State, Request, on, put, start, run, look, pixel, peek, clear, setUp}
+use Rattle.model.specs.Calls.{State, Request, on, put, start, run, look, pixel, peek, clear, judge, setUp}
 use Rattle.isolation.specs.TwoRuns.{after, repliesOn, TwoRuns, InNoPixels, InNoStore}
 
 -- ## Two consoles
@@ -73,14 +73,16 @@ abbrev pub firstCalls : List Request
 firstCalls =
     on 0 (put 0 drawingList) ∷ on 1 (put 0 (lineAcross 1 0 0xCD 0xAB ++ end)) ∷ on 0 (start 0) ∷ on 1 (start 0)
     ∷ on 1 (run 9) ∷ on 0 (run 4) ∷ on 5 look ∷ on 0 (start 1) ∷ on 0 (pixel 0 0) ∷ on 0 (run 9)
-    ∷ on 0 (pixel 1 1) ∷ on 0 (pixel 2 0) ∷ on 1 clear ∷ on 0 (peek 48) ∷ on 0 (run 1) ∷ on 0 look ∷ []
+    ∷ on 0 (pixel 1 1) ∷ on 0 (pixel 2 0) ∷ on 1 clear ∷ on 0 (peek 48) ∷ on 0 (run 1) ∷ on 0 look
+    ∷ on 0 (judge 0) ∷ on 0 (judge 6) ∷ []
 
 abbrev pub secondCalls : List Request
 secondCalls =
     on 2 (put 0 (0 ∷ 0 ∷ [])) ∷ on 2 (start 0) ∷ on 0 (put 0 drawingList) ∷ on 2 (run 3) ∷ on 2 (put 1 (4 ∷ 4 ∷ []))
     ∷ on 0 (start 0) ∷ on 0 (run 4) ∷ on 0 (start 1) ∷ on 1 (put 0 (lineAcross 2 0 0xCD 0xAB ++ end))
     ∷ on 1 (start 0) ∷ on 1 (run 3) ∷ on 0 (pixel 0 0) ∷ on 0 (run 9) ∷ on 1 (run 9) ∷ on 0 (pixel 1 1)
-    ∷ on 0 (pixel 2 0) ∷ on 7 clear ∷ on 0 (peek 48) ∷ on 0 (run 1) ∷ on 1 (peek 32) ∷ on 0 look ∷ []
+    ∷ on 0 (pixel 2 0) ∷ on 7 clear ∷ on 0 (peek 48) ∷ on 0 (run 1) ∷ on 1 (peek 32) ∷ on 0 look ∷ on 1 (judge 0)
+    ∷ on 0 (judge 0) ∷ on 0 (judge 6) ∷ []
 
 -- ## What comes of it
 
@@ -94,7 +96,9 @@ replies =
     ∷ refusedWith 3 ∷ acceptedWith (natural 2 ∷ []) ∷ acceptedWith (natural 2 ∷ natural 2 ∷ natural 0 ∷ [])
     ∷ acceptedWith (natural 3 ∷ []) ∷ refusedWith 5 ∷ refusedWith 2 ∷ refusedWith 4
     -- look: ended, no fault, pointer 2E hex, position (1,1), no flag
-    ∷ acceptedWith (natural 2 ∷ natural 0 ∷ address 0x2E ∷ natural 1 ∷ natural 1 ∷ natural 0 ∷ natural 0 ∷ []) ∷ []
+    ∷ acceptedWith (natural 2 ∷ natural 0 ∷ address 0x2E ∷ natural 1 ∷ natural 1 ∷ natural 0 ∷ natural 0 ∷ [])
+    -- judge: clean, six commands; and where DEF_BITMAP's xmax stands, 0001 hex is an end word
+    ∷ acceptedWith (natural 0 ∷ natural 6 ∷ []) ∷ acceptedWith (natural 0 ∷ natural 0 ∷ []) ∷ []
 
 pub record Worked : Type 0 where
   pub supposed : TwoRuns sixByTwo 0 row first second firstCalls secondCalls

@@ -13,7 +13,7 @@ use Rattle.model.specs.declared.Font.the-variants as font
 use Rattle.model.specs.Figures.{neg}
 use Rattle.model.specs.Runs.{runs}
 use Rattle.model.specs.Setup.{rowAt}
-use Rattle.model.specs.Calls.{State, Answer, Request, on, put, start, run, look, pixel, peek, clear, exec, setUp}
+use Rattle.model.specs.Calls.{State, Answer, Request, on, put, start, run, look, pixel, peek, clear, judge, exec, setUp}
 use Rattle.model.proofs.Scripts.{values}
 use Rattle.model.proofs.Computing.{machine}
 
@@ -139,7 +139,7 @@ refuses s c n = tells s c (pos n ∷ [])
 abbrev leaves : Request → List ℤ → State → Case
 leaves c v t = record { lent = begin; call = c; values = v; left = t }
 
--- all seven calls on a pane, with values that would be refused for themselves too
+-- all eight calls on a pane, with values that would be refused for themselves too
 abbrev everyCall : State → ℕ → ℕ → List Case
 everyCall s k n =
     refuses s (on k (put 9 [])) n
@@ -149,6 +149,7 @@ everyCall s k n =
     ∷ refuses s (on k (pixel 16 2)) n
     ∷ refuses s (on k (peek 9)) n
     ∷ refuses s (on k clear) n
+    ∷ refuses s (on k (judge 9)) n
     ∷ []
 
 -- records that refusal 12 names, and besides a geometry that 6 names
@@ -212,6 +213,15 @@ table =
     -- ## Clear
     ∷ leaves (on 0 clear) (pos 0 ∷ []) (state asNew (drawing 1 0 0 1) screen stores)
     ∷ leaves (on 1 clear) (pos 0 ∷ []) (state busy asNew screen stores)
+    -- ## Judge: 3 before 2, as start. Pane 0 has an unknown opcode, and at 6 a CHAR cut short; pane 1's POINT has no bitmap,
+    -- though its record has one
+    ∷ tells begin (on 0 (judge 0)) (pos 0 ∷ pos 20 ∷ pos 0 ∷ [])
+    ∷ tells begin (on 0 (judge 6)) (pos 0 ∷ pos 21 ∷ pos 6 ∷ [])
+    ∷ tells begin (on 1 (judge 0)) (pos 0 ∷ pos 23 ∷ pos 0 ∷ [])
+    ∷ refuses begin (on 0 (judge 8)) 2
+    ∷ refuses begin (on 0 (judge 7)) 3
+    ∷ refuses begin (on 0 (judge 9)) 3
+    ∷ refuses begin (on 1 (judge 6)) 2
     -- ## 1, then 12, then a call's own; set-up's refusals before all
     ∷ refuses begin (on 9 look) 1
     ∷ everyCall begin 2 1

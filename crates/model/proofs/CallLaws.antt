@@ -19,11 +19,11 @@ use Rattle.model.specs.Replies.{Response, acceptedWith, natural, ranValu
 use Rattle.model.specs.Bitmaps.{Surface, paneSurface, inside, pixels, Fits}
 use Rattle.model.specs.Pixels.{Change, change, changes}
 use Rattle.model.specs.Commands.{decode}
-use Rattle.model.specs.Faults.{faultOf}
+use Rattle.model.specs.Faults.{contextOf, faultOf}
 use Rattle.model.specs.Effects.{Effect, becomes, draws}
-use Rattle.model.specs.Steps.{Plan, onStore, planOf, judged, obey, step}
+use Rattle.model.specs.Steps.{Plan, onStore, planOf, attempted, obey, step}
 use Rattle.model.specs.Runs.{Finish, idle, carried, stepped, follow, runs}
-use Rattle.model.specs.Calls.{Call, put, start, run, look, pixel, peek, clear, Outcome, outcome, ran, ownRefusal, onPane, State, Request, refusal}
+use Rattle.model.specs.Calls.{Call, put, start, run, look, pixel, peek, clear, judge, Outcome, outcome, ran, ownRefusal, onPane, State, Request, refusal}
 use Rattle.model.specs.Calls.{accepted, refused, exec}
 use Rattle.model.proofs.Decisions.{cond-none, cond-true, cond-false, cond-ind, cond-rel}
 use Rattle.model.proofs.FieldLaws.{length-put}
@@ -51,17 +51,17 @@ unfolding planOf
 plan-length g r p store next (becomes q) = refl
 plan-length g r p store next (draws d) = onStore-length g r (p .bitmap) _ store
 
-judged-length : (g : Geometry) (r : Row) (p : Pane) (see : ℕ → ℕ → ℕ) (store : List ℕ) (next : ℕ) (c : Command) (f : ℕ)
-    → length (judged g r p see store next c f .store) ≡ length store
-unfolding judged
-judged-length g r p see store next c f =
+attempted-length : (g : Geometry) (r : Row) (p : Pane) (see : ℕ → ℕ → ℕ) (store : List ℕ) (next : ℕ) (c : Command) (f : ℕ)
+    → length (attempted g r p see store next c f .store) ≡ length store
+unfolding attempted
+attempted-length g r p see store next c f =
     cond-ind (λ (q : Plan). length (q .store) ≡ length store) (eqb f 0) _ _ (λ e. plan-length g r p store next _) (λ e. refl)
 
 obey-length : (g : Geometry) (r : Row) (p : Pane) (see : ℕ → ℕ → ℕ) (store : List ℕ) (d : Decoded) → length (obey g r p see store d .store) ≡ length store
 unfolding obey
 obey-length g r p see store End = refl
 obey-length g r p see store (Fault f) = refl
-obey-length g r p see store (Do c next) = judged-length g r p see store next c (faultOf g r p store c)
+obey-length g r p see store (Do c next) = attempted-length g r p see store next c (faultOf g r (contextOf p) store c)
 
 pub step-length : (g : Geometry) (r : Row) (p : Pane) (see : ℕ → ℕ → ℕ) (store : List ℕ) → length (step g r p see store .store) ≡ length store
 unfolding step
@@ -153,6 +153,7 @@ module _ (g : Geometry) (r : Row) (p : Pane) where
   onPane-local s store f m (pixel x y) e = local-screen _ _ s store store refl
   onPane-local s store f m (peek a) e = local-screen _ _ s store store refl
   onPane-local s store f m clear e = local-screen _ _ s store store refl
+  onPane-local s store f m (judge a) e = local-screen _ _ s store store refl
 
   -- two outcomes that the pane cannot tell apart
   pub record SameOutcome (a b : Outcome) : Type 0 where
@@ -186,6 +187,7 @@ module _ (g : Geometry) (r : Row) (p : Pane) where
       onPane-agree (pixel x y) = record { reply = ap (λ (see : ℕ → ℕ → ℕ). acceptedWith (natural (see x y) ∷ [])) e; pane = refl; store = refl; shown = e }
       onPane-agree (peek a) = same-screen _ _ _
       onPane-agree clear = same-screen _ _ _
+      onPane-agree (judge a) = same-screen _ _ _
 
 -- ## A call is refused, or accepted
 

@@ -15,12 +15,12 @@ use Rattle.model.proofs.Listings.{circle, bitBlt, bitBltM, char, bytes,
 use Rattle.model.proofs.Scripts.{Piece, piece, laid, script, values}
 
 -- what a command comes to
-pub data Verdict : Type 0 where
+pub data Fate : Type 0 where
   -- it is done and counted
-  done : Verdict
+  done : Fate
   -- it is an end word
-  end : Verdict
-  fault : ℕ → Verdict
+  end : Fate
+  fault : ℕ → Fate
 
 -- commands that are done one after the other, from the store's first byte on; other pieces of the store; the command behind them; what the next
 -- command comes to
@@ -28,16 +28,16 @@ pub record Case : Type 0 where
   pub before : List (List ℕ)
   pub pieces : List Piece
   pub command : List ℕ
-  pub verdict : Verdict
+  pub fate : Fate
 
 abbrev pub passes : List (List ℕ) → List Piece → List ℕ → Case
-passes before pieces command = record { before = before; pieces = pieces; command = command; verdict = done }
+passes before pieces command = record { before = before; pieces = pieces; command = command; fate = done }
 
 abbrev pub ends : List (List ℕ) → List Piece → List ℕ → Case
-ends before pieces command = record { before = before; pieces = pieces; command = command; verdict = end }
+ends before pieces command = record { before = before; pieces = pieces; command = command; fate = end }
 
 abbrev pub faults : ℕ → List (List ℕ) → List Piece → List ℕ → Case
-faults n before pieces command = record { before = before; pieces = pieces; command = command; verdict = fault n }
+faults n before pieces command = record { before = before; pieces = pieces; command = command; fate = fault n }
 
 -- a screen of 16 by 2 pixels of depth 1, all of it the pane, and a store of 80 hex bytes
 abbrev lent : Case → State
@@ -90,12 +90,12 @@ pub record Result : Type 0 where
   pub values : List ℤ
   pub left : List State
 
-abbrev came : Verdict → Answer → Result
+abbrev came : Fate → Answer → Result
 came done a = record { values = values (a .reply); left = [] }
 came end a = record { values = values (a .reply); left = a .state ∷ [] }
 came (fault n) a = record { values = values (a .reply); left = a .state ∷ [] }
 
-abbrev due : Verdict → State → Result
+abbrev due : Fate → State → Result
 due done s = record { values = pos 0 ∷ pos 1 ∷ pos 1 ∷ pos 0 ∷ []; left = [] }
 due end s = record { values = pos 0 ∷ pos 0 ∷ pos 2 ∷ pos 0 ∷ []; left = stopped 2 0 s ∷ [] }
 due (fault n) s = record { values = pos 0 ∷ pos 0 ∷ pos 3 ∷ pos n ∷ []; left = stopped 3 n s ∷ [] }
@@ -103,12 +103,12 @@ due (fault n) s = record { values = pos 0 ∷ pos 0 ∷ pos 3 ∷ pos n ∷ []; 
 unfoldable pub results : List Case → List Result
 unfolding reached
 results [] = []
-results (c ∷ cs) = came (c .verdict) (exec (reached c) (on 0 (run 1))) ∷ results cs
+results (c ∷ cs) = came (c .fate) (exec (reached c) (on 0 (run 1))) ∷ results cs
 
 unfoldable pub dues : List Case → List Result
 unfolding reached
 dues [] = []
-dues (c ∷ cs) = due (c .verdict) (reached c) ∷ dues cs
+dues (c ∷ cs) = due (c .fate) (reached c) ∷ dues cs
 
 -- ## What the active bitmap is in the rows below
 

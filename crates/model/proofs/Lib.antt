@@ -33,6 +33,7 @@ pub mod DrawFaultCases
 pub mod SetupCases
 pub mod RecordCases
 pub mod CallCases
+pub mod JudgeCases
 pub mod StateCases
 pub mod TableCases
 pub mod IgnoredBits

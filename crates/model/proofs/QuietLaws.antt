@@ -1,11 +1,11 @@
--- "Look, pixel and peek change nothing".
+-- "Look, pixel and peek change nothing", and the judge "writes nothing" (02, A.2).
 use mathlib.Core.Path.{_≡_, refl, ap, _∙_}
 use mathlib.Core.List.{List, [], _∷_, _++_}
 use Prim.Native.Nat.{ℕ, zero, suc}
 use lib.Dec.{eqb}
 use lib.ListN.{getD, set, take, drop, take-append-drop}
 use Rattle.model.specs.Record.{Pane, noPane}
-use Rattle.model.specs.Calls.{State, on, Call, look, pixel, peek, Answer, outcome, part, inPart, rowOf, recordOf, storeOf, onPane, withPane, accepted}
+use Rattle.model.specs.Calls.{State, on, Call, look, pixel, peek, judge, Answer, outcome, part, inPart, rowOf, recordOf, storeOf, onPane, withPane, accepted}
 use Rattle.model.specs.Calls.{refusal, refused, exec}
 use Rattle.model.specs.Replies.{Response}
 use Rattle.model.proofs.Decisions.{cond-ind}
@@ -33,12 +33,14 @@ pub data Quiet : Call → Type 0 where
   looks : Quiet look
   sees : (x y : ℕ) → Quiet (pixel x y)
   peeks : (a : ℕ) → Quiet (peek a)
+  judges : (a : ℕ) → Quiet (judge a)
 
 accepted-quiet : (s : State) (k : ℕ) (c : Call) → Quiet c → accepted s (on k c) .state ≡ s
 unfolding accepted onPane
 accepted-quiet s k c looks = keeps s k _
 accepted-quiet s k c (sees x y) = keeps s k _
 accepted-quiet s k c (peeks a) = keeps s k _
+accepted-quiet s k c (judges a) = keeps s k _
 
 pub exec-quiet : (s : State) (k : ℕ) (c : Call) → Quiet c → exec s (on k c) .state ≡ s
 unfolding exec

@@ -11,9 +11,10 @@ use Rattle.model.specs.Numbers.{refuseRecord}
 use Rattle.model.specs.Bitmaps.{Geometry, Row, paneSurface, pixels}
 use Rattle.model.specs.Record.{Pane, fresh, noReturns, withProgress, withReturns}
 use Rattle.model.specs.Runs.{Finish, runs}
+use Rattle.model.specs.Judge.{verdictOf}
 use Rattle.model.specs.Setup.{rowAt, paneAt, checks, paneBad}
 pub use Rattle.model.specs.declared.Console.{Console}
-use Rattle.model.specs.Replies.{Response, refusedWith, acceptedWith, natural, ranValues, viewValues}
+use Rattle.model.specs.Replies.{Response, refusedWith, acceptedWith, natural, ranValues, viewValues, verdictValues}
 
 -- the console record and the two buffers, as lent to a call and as left by it
 pub record State : Type 0 where
@@ -22,7 +23,7 @@ pub record State : Type 0 where
   pub stores : List ℕ
 
 -- the calls on a pane, with their values: put (address, bytes), start (address), run (budget), look, pixel
--- (x,y), peek (address), clear
+-- (x,y), peek (address), clear, judge (address)
 pub data Call : Type 0 where
   put : ℕ → List ℕ → Call
   start : ℕ → Call
@@ -31,6 +32,7 @@ pub data Call : Type 0 where
   pixel : ℕ → ℕ → Call
   peek : ℕ → Call
   clear : Call
+  judge : ℕ → Call
 
 -- "A call on a pane names its number"
 pub record Request : Type 0 where
@@ -51,11 +53,14 @@ inPart l at n new = take at l ++ (new ++ drop n (drop at l))
 
 -- ## A call's own refusal; 0 for none
 
+-- "Start (address): 3 odd, 2 not below the length"
+abbrev pub startRefusal : Row → ℕ → ℕ
+startRefusal r a = cond (eqb (a % 2) 1) refuseOdd (cond (leb (r .len) a) refuseEnd 0)
+
 unfoldable pub ownRefusal : Row → Pane → Call → ℕ
 -- "Put (address, bytes): 2 if they pass the store's end; nothing at the very end is accepted"
 ownRefusal r p (put a bytes) = cond (ltb (r .len) (a + length bytes)) refuseEnd 0
--- "Start (address): 3 odd, 2 not below the length"
-ownRefusal r p (start a) = cond (eqb (a % 2) 1) refuseOdd (cond (leb (r .len) a) refuseEnd 0)
+ownRefusal r p (start a) = startRefusal r a
 -- "Run (budget, 32 bits): 4 status isn't 1"
 ownRefusal r p (run budget) = cond (eqb (p .progress .status) statusRunning) 0 refuseStatus
 -- "Look: none of its own"
@@ -66,6 +71,8 @@ ownRefusal r p (pixel x y) = cond (ltb x (r .width) && ltb y (r .height)) 0 refu
 ownRefusal r p (peek a) = cond (leb (r .len) a) refuseEnd 0
 -- "Clear: none"
 ownRefusal r p clear = 0
+-- "The judge .. starts at an address in its store, refused as start refuses it" (02, A.2)
+ownRefusal r p (judge a) = startRefusal r a
 
 -- ## An accepted call on one pane: its record, the screen, and its own part of the stores
 
@@ -116,6 +123,9 @@ onPane g r p screen store (pixel x y) =
 onPane g r p screen store (peek a) = outcome (acceptedWith (natural (getD store a 0) ∷ [])) p screen store
 -- "fresh pane record, store and pixels kept"
 onPane g r p screen store clear = outcome (acceptedWith []) fresh screen store
+-- "starts at an address in its store, .. as from a cleared pane"; "It writes nothing" (02, A.2)
+onPane g r p screen store (judge a) =
+    outcome (acceptedWith (verdictValues (verdictOf g r store (started fresh a)))) p screen store
 
 -- ## The console
 

@@ -95,7 +95,7 @@ effectOf g r p pixelOf store next (command.Circle radius) =
 effectOf g r p pixelOf store next (command.Char a n t) =
     draws (string (p .pen) t (p .text) store (p .position) (listed 0 n (descriptor (p .text .font) store a)))
 effectOf g r p pixelOf store next (command.BitBltM a xmax ymax b) =
-    draws (copy (seen g r pixelOf store (sourceBitmap g r p a xmax ymax)) (p .text .spacing) (p .position)
+    draws (copy (seen g r pixelOf store (sourceBitmap g r (p .bitmap) a xmax ymax)) (p .text .spacing) (p .position)
     (rectangleOf b))
 effectOf g r p pixelOf store next (command.ScanLines a n) =
     draws (scanLines (p .pen) (p .position) (triplesAt store a n))

@@ -13,6 +13,7 @@ use Rattle.model.specs.Coordinates.{coord, negative}
 use Rattle.model.specs.Bitmaps.{Geometry, Row, Bitmap, surfaceOf, bitmapOf, ruleBroken, touches}
 use Rattle.model.specs.declared.Bitmap.the-variants as bitmap
 use Rattle.model.specs.Record.{Pane, Clip, Font}
+pub use Rattle.model.specs.declared.Context.{Context}
 use Rattle.model.specs.declared.Font.the-variants as font
 use Rattle.model.specs.Copies.{Rectangle, rectangleOf, blockBad, sharing}
 use Rattle.model.specs.Glyphs.{offsetWord, descriptor, heightOf}
@@ -69,13 +70,9 @@ descriptorsBad r active store f a n =
 
 -- ## Copies
 
--- the bits per pixel of the active bitmap
-abbrev pub activeBits : Geometry → Row → Pane → ℕ
-activeBits g r p = surfaceOf g r (p .bitmap) .bits
-
 -- the bitmap that BIT_BLT_M names, "at the active depth"
-abbrev pub sourceBitmap : Geometry → Row → Pane → ℕ → ℕ → ℕ → Bitmap
-sourceBitmap g r p a xmax ymax = bitmapOf a xmax ymax (activeBits g r p)
+abbrev pub sourceBitmap : Geometry → Row → Bitmap → ℕ → ℕ → ℕ → Bitmap
+sourceBitmap g r active a xmax ymax = bitmapOf a xmax ymax (surfaceOf g r active .bits)
 
 -- BIT_BLT_M's faults after 23, by its source bitmap and rectangle
 abbrev pub copyFault : Geometry → Row → Bitmap → Bitmap → Rectangle → ℕ
@@ -86,47 +83,52 @@ copyFault g r active source c =
 -- ## Each command's fault; 0 for none
 
 -- "Drawing commands: 23", and then the others
-abbrev pub drawFault : Pane → ℕ → ℕ
-drawFault p rest = cond (noBitmap (p .bitmap)) faultNoBitmap rest
+abbrev pub drawFault : Bitmap → ℕ → ℕ
+drawFault active rest = cond (noBitmap active) faultNoBitmap rest
 
-unfoldable pub faultOf : Geometry → Row → Pane → List ℕ → Command → ℕ
-faultOf g r p store (command.Link a) = 0
-faultOf g r p store command.Nop = 0
-faultOf g r p store (command.DefTexture pattern t) = 0
+-- all that faults depend on beside the pane's geometry and row and its store
+abbrev pub contextOf : Pane → Context
+contextOf p = record { bitmap = p .bitmap; font = p .text .font; kept = p .returns .count }
+
+unfoldable pub faultOf : Geometry → Row → Context → List ℕ → Command → ℕ
+faultOf g r x store (command.Link a) = 0
+faultOf g r x store command.Nop = 0
+faultOf g r x store (command.DefTexture pattern t) = 0
 -- "DEF_CHAR_SET: 25 odd base"
-faultOf g r p store (command.DefCharSet base t) = cond (eqb (base % 2) 1) faultData 0
+faultOf g r x store (command.DefCharSet base t) = cond (eqb (base % 2) 1) faultData 0
 -- "CALL: 26 eight kept"
-faultOf g r p store (command.Call a) = cond (leb 8 (p .returns .count)) faultCall 0
+faultOf g r x store (command.Call a) = cond (leb 8 (x .kept)) faultCall 0
 -- "RETURN: 27 none kept"
-faultOf g r p store command.Return = cond (eqb (p .returns .count) 0) faultReturn 0
+faultOf g r x store command.Return = cond (eqb (x .kept) 0) faultReturn 0
 -- "DEF_BITMAP: 22 rule broken"
-faultOf g r p store (command.DefBitmap a xmax ymax b) = cond (ruleBroken g r (bitmapOf a xmax ymax b)) faultBitmap 0
-faultOf g r p store (command.DefColors fore back) = 0
-faultOf g r p store (command.DefLogicalOp mask code) = 0
-faultOf g r p store command.EnterPick = 0
-faultOf g r p store command.ExitPick = 0
+faultOf g r x store (command.DefBitmap a xmax ymax b) = cond (ruleBroken g r (bitmapOf a xmax ymax b)) faultBitmap 0
+faultOf g r x store (command.DefColors fore back) = 0
+faultOf g r x store (command.DefLogicalOp mask code) = 0
+faultOf g r x store command.EnterPick = 0
+faultOf g r x store command.ExitPick = 0
 -- "DEF_CLIP_RECT: 23 no bitmap, 24 outside it": "the four values lie in the bitmap"
-faultOf g r p store (command.DefClipRect xmin ymin xmax ymax) =
-    cond (noBitmap (p .bitmap)) faultNoBitmap
-    (cond (clipOutside (p .bitmap) (record { xmin = xmin; ymin = ymin; xmax = xmax; ymax = ymax })) faultClip 0)
-faultOf g r p store (command.DefSpace spacing) = 0
-faultOf g r p store (command.DefCharOrient orientation) = 0
-faultOf g r p store (command.AbsMov x y) = 0
-faultOf g r p store (command.RelMov dx dy) = 0
-faultOf g r p store (command.Point dx dy) = drawFault p 0
-faultOf g r p store (command.Line dx dy) = drawFault p 0
-faultOf g r p store (command.Rect dx dy) = drawFault p 0
-faultOf g r p store (command.BitBlt b) =
-    drawFault p (cond (blockBad (surfaceOf g r (p .bitmap)) (rectangleOf b)) faultCopy 0)
+faultOf g r x store (command.DefClipRect xmin ymin xmax ymax) =
+    cond (noBitmap (x .bitmap)) faultNoBitmap
+    (cond (clipOutside (x .bitmap) (record { xmin = xmin; ymin = ymin; xmax = xmax; ymax = ymax })) faultClip 0)
+faultOf g r x store (command.DefSpace spacing) = 0
+faultOf g r x store (command.DefCharOrient orientation) = 0
+faultOf g r x store (command.AbsMov a b) = 0
+faultOf g r x store (command.RelMov dx dy) = 0
+faultOf g r x store (command.Point dx dy) = drawFault (x .bitmap) 0
+faultOf g r x store (command.Line dx dy) = drawFault (x .bitmap) 0
+faultOf g r x store (command.Rect dx dy) = drawFault (x .bitmap) 0
+faultOf g r x store (command.BitBlt b) =
+    drawFault (x .bitmap) (cond (blockBad (surfaceOf g r (x .bitmap)) (rectangleOf b)) faultCopy 0)
 -- pairs of words
-faultOf g r p store (command.Polyline a n) = drawFault p (cond (arrayBad r (p .bitmap) a (4 * n)) faultData 0)
+faultOf g r x store (command.Polyline a n) = drawFault (x .bitmap) (cond (arrayBad r (x .bitmap) a (4 * n)) faultData 0)
 -- "A negative radius is fault 30, after 23" (02, A.1)
-faultOf g r p store (command.Circle radius) = drawFault p (cond (negative (coord radius)) faultRadius 0)
-faultOf g r p store (command.Char a n t) =
-    drawFault p (cond (noFont (p .text .font)) faultNoFont
-    (cond (stringBad r (p .bitmap) store (p .text .font) a n
-    || descriptorsBad r (p .bitmap) store (p .text .font) a n) faultData 0))
-faultOf g r p store (command.BitBltM a xmax ymax b) =
-    drawFault p (copyFault g r (p .bitmap) (sourceBitmap g r p a xmax ymax) (rectangleOf b))
+faultOf g r x store (command.Circle radius) = drawFault (x .bitmap) (cond (negative (coord radius)) faultRadius 0)
+faultOf g r x store (command.Char a n t) =
+    drawFault (x .bitmap) (cond (noFont (x .font)) faultNoFont
+    (cond (stringBad r (x .bitmap) store (x .font) a n
+    || descriptorsBad r (x .bitmap) store (x .font) a n) faultData 0))
+faultOf g r x store (command.BitBltM a xmax ymax b) =
+    drawFault (x .bitmap) (copyFault g r (x .bitmap) (sourceBitmap g r (x .bitmap) a xmax ymax) (rectangleOf b))
 -- triples of words
-faultOf g r p store (command.ScanLines a n) = drawFault p (cond (arrayBad r (p .bitmap) a (6 * n)) faultData 0)
+faultOf g r x store (command.ScanLines a n) =
+    drawFault (x .bitmap) (cond (arrayBad r (x .bitmap) a (6 * n)) faultData 0)

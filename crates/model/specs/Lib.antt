@@ -18,6 +18,7 @@ pub mod Faults
 pub mod Effects
 pub mod Steps
 pub mod Runs
+pub mod Judge
 pub mod Setup
 pub mod Replies
 pub mod Calls

@@ -62,6 +62,14 @@ faultCopy = 29
 abbrev pub faultRadius : ℕ
 faultRadius = 30
 
+-- what the judge alone names (02, A.2): "LINK, or a DEF_BITMAP whose address isn't 200000 hex, gets 31"
+abbrev pub faultBarred : ℕ
+faultBarred = 31
+
+-- "anything but an end word after 4,096 commands gets 32"
+abbrev pub faultLong : ℕ
+faultLong = 32
+
 -- ## Refusals
 
 -- "1 no such pane"

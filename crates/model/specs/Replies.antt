@@ -8,6 +8,8 @@ use Rattle.model.specs.Coordinates.{coord}
 pub use Rattle.model.specs.declared.Progress.{Progress}
 pub use Rattle.model.specs.declared.Ran.{Ran}
 pub use Rattle.model.specs.declared.View.{View}
+pub use Rattle.model.specs.declared.Verdict.{Verdict}
+use Rattle.model.specs.declared.Verdict.the-variants.{Clean, Found}
 pub use Rattle.model.specs.declared.Reply.{Reply}
 use Rattle.model.specs.declared.Reply.the-variants as reply
 
@@ -41,9 +43,16 @@ viewValues v =
     ++ (number (coord (v .position .x)) ∷ number (coord (v .position .y)) ∷ natural (digit (v .pick)) ∷ natural
     (digit (v .trap)) ∷ [])
 
+-- "Otherwise the accepted reply names the first fault the run would meet and its address" (02, A.2): 0 and the
+-- commands walked, or the number and its address
+abbrev pub verdictValues : Verdict → List Value
+verdictValues (Clean n) = natural 0 ∷ natural n ∷ []
+verdictValues (Found f a) = natural f ∷ address a ∷ []
+
 abbrev pub response : Reply → Response
 response (reply.Refused n) = refusedWith n
 response reply.Done = acceptedWith []
 response (reply.Ran r) = acceptedWith (ranValues r)
 response (reply.Seen v) = acceptedWith (viewValues v)
 response (reply.Value n) = acceptedWith (natural n ∷ [])
+response (reply.Judged v) = acceptedWith (verdictValues v)

@@ -1,4 +1,4 @@
--- One command (01, "One command"): judged, then planned. Nothing here sees the screen: a step gets a reader
+-- One command (01, "One command"): its faults looked for, then planned. Nothing here sees the screen: a step gets a reader
 -- of its own pane's pixels, and answers the next record, the next store and the changes to the pane's pixels.
 use Prim.Native.Nat.{ℕ}
 use mathlib.Core.List.{List, []}
@@ -11,7 +11,7 @@ use Rattle.model.specs.Pixels.{Change, changes}
 use Rattle.model.specs.Dots.{Drawing, hits, changesOf}
 use Rattle.model.specs.Commands.{Command, Decoded, decode}
 use Rattle.model.specs.declared.Decoded.the-variants.{Do, End, Fault}
-use Rattle.model.specs.Faults.{faultOf}
+use Rattle.model.specs.Faults.{contextOf, faultOf}
 use Rattle.model.specs.Effects.{Effect, becomes, draws, effectOf}
 
 -- commands counted, pixels visible, the next record, the next store, the changes to the pane's pixels
@@ -68,15 +68,15 @@ planOf g r p store next (draws d) =
     }
 
 -- "All is checked before the first pixel": done where there is no fault
-unfoldable pub judged : Geometry → Row → Pane → (ℕ → ℕ → ℕ) → List ℕ → ℕ → Command → ℕ → Plan
-judged g r p pixelOf store next c fault =
+unfoldable pub attempted : Geometry → Row → Pane → (ℕ → ℕ → ℕ) → List ℕ → ℕ → Command → ℕ → Plan
+attempted g r p pixelOf store next c fault =
     cond (eqb fault 0) (planOf g r p store next (effectOf g r p pixelOf store next c))
     (stopped (faulted p fault) store)
 
 unfoldable pub obey : Geometry → Row → Pane → (ℕ → ℕ → ℕ) → List ℕ → Decoded → Plan
 obey g r p pixelOf store End = stopped (ended p) store
 obey g r p pixelOf store (Fault f) = stopped (faulted p f) store
-obey g r p pixelOf store (Do c next) = judged g r p pixelOf store next c (faultOf g r p store c)
+obey g r p pixelOf store (Do c next) = attempted g r p pixelOf store next c (faultOf g r (contextOf p) store c)
 
 -- one step, from the record, what the pane shows of its pixels, and its store
 unfoldable pub step : Geometry → Row → Pane → (ℕ → ℕ → ℕ) → List ℕ → Plan

@@ -115,6 +115,14 @@ pub struct Returns {
     pub count: u8,
 }
 
+// What of a pane record the faults of a command depend on: the active bitmap, the font, and how many return
+// addresses are kept.
+pub struct Context {
+    pub bitmap: Bitmap,
+    pub font: Font,
+    pub kept: u8,
+}
+
 // A pane record.
 pub struct Pane {
     pub progress: Progress,
@@ -318,6 +326,13 @@ pub struct View {
     pub trap: bool,
 }
 
+// What the judge finds: a clean list with the number of commands walked, or the number of a fault, 31 or 32
+// among them, with its address.
+pub enum Verdict {
+    Clean(u32),
+    Found(u8, u32),
+}
+
 // A call's reply: the refusal, or acceptance with its values.
 pub enum Reply {
     Refused(u8),
@@ -325,6 +340,7 @@ pub enum Reply {
     Ran(Ran),
     Seen(View),
     Value(u8),
+    Judged(Verdict),
 }
 
 // ---- Bench figures

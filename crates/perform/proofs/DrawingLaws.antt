@@ -23,7 +23,7 @@ use Rattle.model.specs.Lines.{line, pointAt, rectangle, pairsAt, polyline, trip
 use Rattle.model.specs.Circles.{circle}
 use Rattle.model.specs.Copies.{rectangleOf, seen, copy, blockBad}
 use Rattle.model.specs.Glyphs.{descriptor, string}
-use Rattle.model.specs.Faults.{noBitmap, noFont, arrayBad, stringBad, descriptorsBad, sourceBitmap, faultOf}
+use Rattle.model.specs.Faults.{noBitmap, noFont, arrayBad, stringBad, descriptorsBad, sourceBitmap, contextOf, faultOf}
 use Rattle.model.specs.Effects.{Effect, draws, effectOf}
 use Rattle.model.proofs.Command.{the-type}
 use Rattle.model.proofs.Decisions.{cond-none}
@@ -49,8 +49,8 @@ use Rattle.perform.proofs.CountLaws.{point-few, line-few, polyline-few,
 -- ## What no fault says; k is the command, told as c
 
 module _ {g : Geometry} {r : Row} {p : Pane} {screen : ℕ} {store : List ℕ} {c : Command} (h : Allowed g r p screen store c) where
-  clear-as : {k : Command} → c ≡ k → faultOf g r p store k ≡ 0
-  clear-as told = subst (λ (z : Command). faultOf g r p store z ≡ 0) told (h .clear)
+  clear-as : {k : Command} → c ≡ k → faultOf g r (contextOf p) store k ≡ 0
+  clear-as told = subst (λ (z : Command). faultOf g r (contextOf p) store z ≡ 0) told (h .clear)
 
   pub drawing-active : {k : Command} → c ≡ k → OneOf drawingTags (tagOf the-type k) → noBitmap (p .bitmap) ≡ false
   drawing-active {k} told kind = drawing-draws g r p (λ x y. 0) store 0 k kind .active (clear-as told)
@@ -73,29 +73,29 @@ module _ {g : Geometry} {r : Row} {p : Pane} {screen : ℕ} {store : List ℕ} {
     pub polyline-reach : {a n : ℕ} → c ≡ command.Polyline a n → Reach t (length store) a (4 * n)
     unfolding faultOf
     polyline-reach {a} {n} told =
-        array-reach a (4 * n) (cond-none (arrayBad r (p .bitmap) a (4 * n)) _ _ tt (drawFault-none p _ (clear-as told) .1) .0)
+        array-reach a (4 * n) (cond-none (arrayBad r (p .bitmap) a (4 * n)) _ _ tt (drawFault-none (p .bitmap) _ (clear-as told) .1) .0)
 
     pub scan-lines-reach : {a n : ℕ} → c ≡ command.ScanLines a n → Reach t (length store) a (6 * n)
     unfolding faultOf
     scan-lines-reach {a} {n} told =
-        array-reach a (6 * n) (cond-none (arrayBad r (p .bitmap) a (6 * n)) _ _ tt (drawFault-none p _ (clear-as told) .1) .0)
+        array-reach a (6 * n) (cond-none (arrayBad r (p .bitmap) a (6 * n)) _ _ tt (drawFault-none (p .bitmap) _ (clear-as told) .1) .0)
 
     -- BIT_BLT's block lies in the active bitmap
     pub bit-blt-inside : {b : Block} → c ≡ command.BitBlt b → blockBad (t .area .surface) (rectangleOf b) ≡ false
     unfolding faultOf targetOf
     bit-blt-inside {b} told =
         subst (λ (z : Target). blockBad (z .area .surface) (rectangleOf b) ≡ false) (sym aim)
-        (cond-none (blockBad (surfaceOf g r (p .bitmap)) (rectangleOf b)) _ _ tt (drawFault-none p _ (clear-as told) .1) .0)
+        (cond-none (blockBad (surfaceOf g r (p .bitmap)) (rectangleOf b)) _ _ tt (drawFault-none (p .bitmap) _ (clear-as told) .1) .0)
 
     -- BIT_BLT_M's source can be copied
     pub bit-blt-m-copyable : {a xmax ymax : ℕ} {b : Block} {source : Area} → c ≡ command.BitBltM a xmax ymax b
-        → source ≡ areaOf g r (sourceBitmap g r p a xmax ymax) → Copyable (t .area) source b screen (length store)
+        → source ≡ areaOf g r (sourceBitmap g r (p .bitmap) a xmax ymax) → Copyable (t .area) source b screen (length store)
     unfolding faultOf targetOf
     bit-blt-m-copyable {a} {xmax} {ymax} {b} told at =
         subst (λ (u : Area). Copyable (t .area) u b screen (length store)) (sym at)
-        (subst (λ (z : Target). Copyable (z .area) (areaOf g r (sourceBitmap g r p a xmax ymax)) b screen (length store)) (sym aim)
-        (copyFault-copyable g r (h .sound .placed) (p .bitmap) (sourceBitmap g r p a xmax ymax) b (source-named a xmax ymax _)
-        (drawFault-none p _ (clear-as told) .1)))
+        (subst (λ (z : Target). Copyable (z .area) (areaOf g r (sourceBitmap g r (p .bitmap) a xmax ymax)) b screen (length store)) (sym aim)
+        (copyFault-copyable g r (h .sound .placed) (p .bitmap) (sourceBitmap g r (p .bitmap) a xmax ymax) b (source-named a xmax ymax _)
+        (drawFault-none (p .bitmap) _ (clear-as told) .1)))
 
     -- CHAR's string can be read
     pub char-writable : {a n : ℕ} {transparent : Bool} → c ≡ command.Char a n transparent → Writable t screen store (p .text) a n
@@ -103,7 +103,7 @@ module _ {g : Geometry} {r : Row} {p : Pane} {screen : ℕ} {store : List ℕ} {
     char-writable {a} {n} told =
         let text = h .sound .good .text in
         let bad = stringBad r (p .bitmap) store (p .text .font) a n || descriptorsBad r (p .bitmap) store (p .text .font) a n in
-        let readable = cond-none bad _ _ tt (cond-none (noFont (p .text .font)) _ _ tt (drawFault-none p _ (clear-as told) .1) .1) .0 in
+        let readable = cond-none bad _ _ tt (cond-none (noFont (p .text .font)) _ _ tt (drawFault-none (p .bitmap) _ (clear-as told) .1) .1) .0 in
         record {
           target = drawing-ready told (hit drawingTags 22 tt);
           oriented = record { path = omega (arith, text .path); rotation = omega (arith, text .rotation) };
@@ -211,13 +211,13 @@ module _ (g : Geometry) (r : Row) (p : Pane) (screen store : List ℕ) (d : Draw
         (canvas screen store 0) d screen′ store′) (ap (λ (z : Target). z .area) aim) h)
 
     pub bit-blt-m-carries : {a xmax ymax : ℕ} {b : Block} {source : Area} → c ≡ command.BitBltM a xmax ymax b
-        → source ≡ areaOf g r (sourceBitmap g r p a xmax ymax)
+        → source ≡ areaOf g r (sourceBitmap g r (p .bitmap) a xmax ymax)
         → Drew t (copy (pixels (source .surface) (cond (source .onscreen) screen store)) (p .text .spacing) (p .position) (rectangleOf b))
         (canvas screen store 0) d screen′ store′
         → Carries g r p c screen store d screen′ store′
     unfolding effectOf
     bit-blt-m-carries {a} {xmax} {ymax} {b} told at h =
-        copy-carries (command.BitBltM a xmax ymax b) (sourceBitmap g r p a xmax ymax) b told (source-named a xmax ymax _) (λ next. refl)
+        copy-carries (command.BitBltM a xmax ymax b) (sourceBitmap g r (p .bitmap) a xmax ymax) b told (source-named a xmax ymax _) (λ next. refl)
         (subst (λ (u : Area). Drew t (copy (pixels (u .surface) (cond (u .onscreen) screen store)) (p .text .spacing) (p .position) (rectangleOf b))
         (canvas screen store 0) d screen′ store′) at h)
 

@@ -10,12 +10,13 @@ use types.Run.{OneOf, miss}
 use Rattle.model.specs.Numbers.{faultNoBitmap}
 use Rattle.model.specs.declared.Geometry.{Geometry}
 use Rattle.model.specs.declared.Row.{Row}
+use Rattle.model.specs.declared.Bitmap.{Bitmap}
 use Rattle.model.specs.declared.Pane.{Pane}
 use Rattle.model.specs.declared.Command.{Command}
 use Rattle.model.specs.declared.Command.the-variants as command
 use Rattle.model.specs.Dots.{Drawing}
 use Rattle.model.specs.Effects.{Effect, becomes, draws, effectOf}
-use Rattle.model.specs.Faults.{noBitmap, drawFault, faultOf}
+use Rattle.model.specs.Faults.{noBitmap, drawFault, contextOf, faultOf}
 use Rattle.model.proofs.Command.{the-type}
 use Rattle.model.proofs.Decisions.{cond-none}
 
@@ -26,14 +27,14 @@ abbrev pub recordTags : List ℕ
 recordTags = 0 ∷ 1 ∷ 2 ∷ 3 ∷ 4 ∷ 5 ∷ 6 ∷ 7 ∷ 8 ∷ 9 ∷ 10 ∷ 11 ∷ 12 ∷ 13 ∷ 14 ∷ 15 ∷ []
 
 -- "Drawing commands: 23", and then the others
-pub drawFault-none : (p : Pane) (rest : ℕ) → drawFault p rest ≡ 0 → (noBitmap (p .bitmap) ≡ false) × (rest ≡ 0)
-drawFault-none p rest e = cond-none (noBitmap (p .bitmap)) faultNoBitmap rest tt e
+pub drawFault-none : (active : Bitmap) (rest : ℕ) → drawFault active rest ≡ 0 → (noBitmap active ≡ false) × (rest ≡ 0)
+drawFault-none active rest e = cond-none (noBitmap active) faultNoBitmap rest tt e
 
 -- a command whose effect is a drawing
 pub record Draws (g : Geometry) (r : Row) (p : Pane) (pixelOf : ℕ → ℕ → ℕ) (store : List ℕ) (next : ℕ) (c : Command) : Type 0 where
   pub drawing : Drawing
   pub is : effectOf g r p pixelOf store next c ≡ draws drawing
-  pub active : faultOf g r p store c ≡ 0 → noBitmap (p .bitmap) ≡ false
+  pub active : faultOf g r (contextOf p) store c ≡ 0 → noBitmap (p .bitmap) ≡ false
 
 -- a command whose effect is another record
 pub record Changes (g : Geometry) (r : Row) (p : Pane) (pixelOf : ℕ → ℕ → ℕ) (store : List ℕ) (next : ℕ) (c : Command) : Type 0 where
@@ -59,15 +60,15 @@ module _ (g : Geometry) (r : Row) (p : Pane) (pixelOf : ℕ → ℕ → ℕ) (st
   drawing-draws (command.DefCharOrient a) h = absurd (miss drawingTags 13 tt h)
   drawing-draws (command.AbsMov a b) h = absurd (miss drawingTags 14 tt h)
   drawing-draws (command.RelMov a b) h = absurd (miss drawingTags 15 tt h)
-  drawing-draws (command.Point a b) h = record { drawing = _; is = refl; active = λ e. drawFault-none p _ e .0 }
-  drawing-draws (command.Line a b) h = record { drawing = _; is = refl; active = λ e. drawFault-none p _ e .0 }
-  drawing-draws (command.Rect a b) h = record { drawing = _; is = refl; active = λ e. drawFault-none p _ e .0 }
-  drawing-draws (command.BitBlt a) h = record { drawing = _; is = refl; active = λ e. drawFault-none p _ e .0 }
-  drawing-draws (command.Polyline a b) h = record { drawing = _; is = refl; active = λ e. drawFault-none p _ e .0 }
-  drawing-draws (command.Circle a) h = record { drawing = _; is = refl; active = λ e. drawFault-none p _ e .0 }
-  drawing-draws (command.Char a b d) h = record { drawing = _; is = refl; active = λ e. drawFault-none p _ e .0 }
-  drawing-draws (command.BitBltM a b d e) h = record { drawing = _; is = refl; active = λ e. drawFault-none p _ e .0 }
-  drawing-draws (command.ScanLines a b) h = record { drawing = _; is = refl; active = λ e. drawFault-none p _ e .0 }
+  drawing-draws (command.Point a b) h = record { drawing = _; is = refl; active = λ e. drawFault-none (p .bitmap) _ e .0 }
+  drawing-draws (command.Line a b) h = record { drawing = _; is = refl; active = λ e. drawFault-none (p .bitmap) _ e .0 }
+  drawing-draws (command.Rect a b) h = record { drawing = _; is = refl; active = λ e. drawFault-none (p .bitmap) _ e .0 }
+  drawing-draws (command.BitBlt a) h = record { drawing = _; is = refl; active = λ e. drawFault-none (p .bitmap) _ e .0 }
+  drawing-draws (command.Polyline a b) h = record { drawing = _; is = refl; active = λ e. drawFault-none (p .bitmap) _ e .0 }
+  drawing-draws (command.Circle a) h = record { drawing = _; is = refl; active = λ e. drawFault-none (p .bitmap) _ e .0 }
+  drawing-draws (command.Char a b d) h = record { drawing = _; is = refl; active = λ e. drawFault-none (p .bitmap) _ e .0 }
+  drawing-draws (command.BitBltM a b d e) h = record { drawing = _; is = refl; active = λ e. drawFault-none (p .bitmap) _ e .0 }
+  drawing-draws (command.ScanLines a b) h = record { drawing = _; is = refl; active = λ e. drawFault-none (p .bitmap) _ e .0 }
 
   pub record-changes : (c : Command) → OneOf recordTags (tagOf the-type c) → Changes g r p pixelOf store next c
   unfolding effectOf

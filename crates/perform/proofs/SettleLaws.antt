@@ -14,7 +14,7 @@ use Rattle.model.specs.declared.Pane.{Pane}
 use Rattle.model.specs.declared.Command.{Command}
 use Rattle.model.specs.declared.Command.the-variants as command
 use Rattle.model.specs.Effects.{Effect, becomes, effectOf}
-use Rattle.model.specs.Faults.{faultOf}
+use Rattle.model.specs.Faults.{contextOf, faultOf}
 use Rattle.model.proofs.Command.{the-type}
 use Rattle.model.proofs.Decisions.{cond-none}
 use Rattle.perform.specs.Performing.{Settling, Settles}
@@ -40,12 +40,12 @@ settles-not p next c q h = record { is = λ g r pixelOf store q′ e. either-eff
 pub call-room : {p : Pane} {a : ℕ} {c : Command} → c ≡ command.Call a → Settling p c → p .returns .count < 8
 unfolding faultOf
 call-room {p} {a} told s =
-    let e = subst (λ (d : Command). faultOf (s .geometry) (s .row) p (s .store) d ≡ 0) told (s .clear) in
+    let e = subst (λ (d : Command). faultOf (s .geometry) (s .row) (contextOf p) (s .store) d ≡ 0) told (s .clear) in
     leb-false 8 (p .returns .count) (cond-none (leb 8 (p .returns .count)) faultCall 0 tt e .0)
 
 pub return-kept : {p : Pane} {c : Command} → c ≡ command.Return → Settling p c → (0 < p .returns .count) × (p .returns .count ≤ 8)
 unfolding faultOf
 return-kept {p} told s =
-    let e = subst (λ (d : Command). faultOf (s .geometry) (s .row) p (s .store) d ≡ 0) told (s .clear) in
+    let e = subst (λ (d : Command). faultOf (s .geometry) (s .row) (contextOf p) (s .store) d ≡ 0) told (s .clear) in
     let n = eqb-false (p .returns .count) 0 (cond-none (eqb (p .returns .count) 0) faultReturn 0 tt e .0) in
     (omega arith, s .returns)

@@ -10,7 +10,7 @@ use Rattle.model.specs.declared.Command.{Command}
 use Rattle.model.specs.Bitmaps.{paneSurface, pixels}
 use Rattle.model.specs.Dots.{Drawing}
 use Rattle.model.specs.Effects.{becomes, draws, effectOf}
-use Rattle.model.specs.Faults.{faultOf}
+use Rattle.model.specs.Faults.{contextOf, faultOf}
 use Rattle.model.specs.Runs.{Finish, carried}
 use Rattle.model.specs.Steps.{drewPane, planOf}
 use Rattle.bitmaps.specs.Places.{Placed}
@@ -30,7 +30,7 @@ pub record Sound (g : Geometry) (r : Row) (p : Pane) (screen store : ℕ) : Type
 -- .. and of a command that is free of faults
 pub record Allowed (g : Geometry) (r : Row) (p : Pane) (screen : ℕ) (store : List ℕ) (c : Command) : Type 0 where
   pub sound : Sound g r p screen (length store)
-  pub clear : faultOf g r p store c ≡ 0
+  pub clear : faultOf g r (contextOf p) store c ≡ 0
 
 -- ## What is left
 
@@ -55,7 +55,7 @@ pub record Settling (p : Pane) (c : Command) : Type 0 where
   pub geometry : Geometry
   pub row : Row
   pub store : List ℕ
-  pub clear : faultOf geometry row p store c ≡ 0
+  pub clear : faultOf geometry row (contextOf p) store c ≡ 0
   pub returns : p .returns .count ≤ 8
 
 -- the record is the command's effect, if it has one on the record alone

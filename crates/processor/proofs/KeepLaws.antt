@@ -19,21 +19,20 @@ use Rattle.model.specs.declared.OpcodeEntry.the-variants.{Known, Unknown}
 use Rattle.model.specs.declared.Decoded.{Decoded}
 use Rattle.model.specs.declared.Decoded.the-variants.{Do, End, Fault}
 use Rattle.model.specs.Numbers.{statusRunning, faultBitmap, faultCall, faultClip, faultData, faultNoBitmap}
-use Rattle.model.specs.Words.{wordAt, addressEnd}
+use Rattle.model.specs.Words.{wordAt}
 use Rattle.model.specs.Coordinates.{coord, negative}
 use Rattle.model.specs.Bitmaps.{ruleBroken, bitmapOf, surfaceOf}
 use Rattle.model.specs.Record.{faulted}
 use Rattle.model.specs.Commands.{Addressed, fontAt, opcodeOf, fetch, decode}
 use Rattle.model.specs.Copies.{Rectangle, rectangleOf, blockBad, sharing}
-use Rattle.model.specs.Faults.{noBitmap, noFont, clipOutside, arrayBad, stringBad, descriptorsBad, sourceBitmap, copyFault, drawFault, faultOf}
+use Rattle.model.specs.Faults.{noBitmap, noFont, clipOutside, arrayBad, stringBad, descriptorsBad, sourceBitmap, copyFault, drawFault, contextOf, faultOf}
 use Rattle.model.specs.Effects.{Effect, becomes, draws, fontOf, effectOf}
-use Rattle.model.specs.Setup.{fontBad}
-use Rattle.model.specs.Steps.{Plan, planOf, judged, obey, step}
+use Rattle.model.specs.Steps.{Plan, planOf, attempted, obey, step}
 use Rattle.model.proofs.Decisions.{split, cond-ind, cond-none, cond-true, cond-false}
 use Rattle.refusals.specs.Good.{Good}
 use Rattle.bitmaps.proofs.BitmapLaws.{whole-clip}
 use Rattle.refusals.proofs.GoodLaws.{good-pointer, good-ended, good-faulted, good-position, good-bitmap, good-clip, good-colours, good-operation}
-use Rattle.refusals.proofs.GoodLaws.{good-pattern, good-spacing, good-orientation, good-font, good-flags, good-returns, good-baseBad}
+use Rattle.refusals.proofs.GoodLaws.{good-pattern, good-spacing, good-orientation, good-font, good-flags, good-returns, good-fontOf}
 use Rattle.decoder.proofs.DecodeLaws.{decode-addressed}
 
 -- ## Faults are 20 to 30
@@ -58,10 +57,10 @@ copy-range g r active source c = first (ruleBroken g r source) 22 _ (omega arith
     (first (blockBad (surfaceOf g r source) c || sharing active source (surfaceOf g r source) c) 29 0 (omega arith) (omega arith) none)
 
 module _ (g : Geometry) (r : Row) (p : Pane) (store : List ℕ) where
-  drawn : (rest : ℕ) → InRange rest → InRange (drawFault p rest)
+  drawn : (rest : ℕ) → InRange rest → InRange (drawFault (p .bitmap) rest)
   drawn rest h = first (noBitmap (p .bitmap)) 23 rest (omega arith) (omega arith) h
 
-  pub fault-range : (c : Command) → InRange (faultOf g r p store c)
+  pub fault-range : (c : Command) → InRange (faultOf g r (contextOf p) store c)
   unfolding faultOf
   fault-range (command.Link a) = none
   fault-range command.Nop = none
@@ -88,7 +87,7 @@ module _ (g : Geometry) (r : Row) (p : Pane) (store : List ℕ) where
   fault-range (command.Char a n t) = drawn _ (first (noFont (p .text .font)) 28 _ (omega arith) (omega arith)
       (first (stringBad r (p .bitmap) store (p .text .font) a n || descriptorsBad r (p .bitmap) store (p .text .font) a n) 25 0 (omega arith) (omega arith)
       none))
-  fault-range (command.BitBltM a xmax ymax b) = drawn _ (copy-range g r (p .bitmap) (sourceBitmap g r p a xmax ymax) (rectangleOf b))
+  fault-range (command.BitBltM a xmax ymax b) = drawn _ (copy-range g r (p .bitmap) (sourceBitmap g r (p .bitmap) a xmax ymax) (rectangleOf b))
   fault-range (command.ScanLines a n) = drawn _ (first (arrayBad r (p .bitmap) a (6 * n)) 25 0 (omega arith) (omega arith) none)
 
 -- ## A command that is done keeps the record good
@@ -98,19 +97,15 @@ GoodEffect : Geometry → Row → Effect → Type 0
 GoodEffect g r (becomes q) = Good g r q
 GoodEffect g r (draws d) = Unit {0}
 
-good-fontOf : (t : Bool) (a : ℕ) → a % 2 ≡ 0 → a < addressEnd → fontBad (fontOf t a) ≡ false
-good-fontOf true a e h = good-baseBad a (record { even = e; most = h })
-good-fontOf false a e h = good-baseBad a (record { even = e; most = h })
-
 module _ (g : Geometry) (r : Row) (p : Pane) (good : Good g r p) (pixelOf : ℕ → ℕ → ℕ) (store : List ℕ) (next : ℕ) where
-  effect-good : (c : Command) → Addressed c → faultOf g r p store c ≡ 0 → GoodEffect g r (effectOf g r p pixelOf store next c)
+  effect-good : (c : Command) → Addressed c → faultOf g r (contextOf p) store c ≡ 0 → GoodEffect g r (effectOf g r p pixelOf store next c)
   unfolding faultOf effectOf GoodEffect
   effect-good (command.Link a) h e = good-pointer good a
   effect-good command.Nop h e = good-pointer good next
   effect-good (command.DefTexture pattern t) h e = good-pointer (good-pattern good pattern t) next
   effect-good (command.DefCharSet base t) h e =
       let o = eqb-false (base % 2) 1 (cond-none (eqb (base % 2) 1) faultData 0 tt e .0) in
-      good-pointer (good-font good (fontOf t base) (good-fontOf t base (omega arith) (h base fontAt))) next
+      good-pointer (good-font good (fontOf t base) (good-fontOf t base o (h base fontAt))) next
   effect-good (command.Call a) h e =
       let l = leb-false 8 (p .returns .count) (cond-none (leb 8 (p .returns .count)) faultCall 0 tt e .0) in
       good-pointer (good-returns good _ (omega arith)) a
@@ -151,11 +146,11 @@ module _ (g : Geometry) (r : Row) (p : Pane) (good : Good g r p) (pixelOf : ℕ 
   fault-good f (inl e) n = absurd (n e)
   fault-good f (inr h) n = good-faulted good f (h .0) (h .1)
 
-  judged-good : (c : Command) → Addressed c → Good g r (judged g r p pixelOf store next c (faultOf g r p store c) .pane)
-  unfolding judged
-  judged-good c h = cond-ind (λ (q : Plan). Good g r (q .pane)) (eqb (faultOf g r p store c) 0) _ _
-      (λ e. plan-good (effectOf g r p pixelOf store next c) (effect-good c h (eqb-true (faultOf g r p store c) 0 e)))
-      (λ e. fault-good (faultOf g r p store c) (fault-range g r p store c) (eqb-false (faultOf g r p store c) 0 e))
+  attempted-good : (c : Command) → Addressed c → Good g r (attempted g r p pixelOf store next c (faultOf g r (contextOf p) store c) .pane)
+  unfolding attempted
+  attempted-good c h = cond-ind (λ (q : Plan). Good g r (q .pane)) (eqb (faultOf g r (contextOf p) store c) 0) _ _
+      (λ e. plan-good (effectOf g r p pixelOf store next c) (effect-good c h (eqb-true (faultOf g r (contextOf p) store c) 0 e)))
+      (λ e. fault-good (faultOf g r (contextOf p) store c) (fault-range g r p store c) (eqb-false (faultOf g r (contextOf p) store c) 0 e))
 
 -- ## A step
 
@@ -193,7 +188,7 @@ module _ (g : Geometry) (r : Row) (p : Pane) (good : Good g r p) (pixelOf : ℕ 
   unfolding obey
   obey-good s bytes End e = good-ended good s
   obey-good s bytes (Fault f) e = let h = decode-fault (r .len) store (p .progress .pointer) f e in good-faulted good f (h .0) (h .1)
-  obey-good s bytes (Do c next) e = judged-good g r p good pixelOf store next c (decode-addressed (r .len) store (p .progress .pointer) c next bytes e)
+  obey-good s bytes (Do c next) e = attempted-good g r p good pixelOf store next c (decode-addressed (r .len) store (p .progress .pointer) c next bytes e)
 
   -- what refusal 12 checks is kept by a step of a running pane
   pub step-good : p .progress .status ≡ statusRunning → ((k : ℕ) → getD store k 0 < 256) → Good g r (step g r p pixelOf store .pane)

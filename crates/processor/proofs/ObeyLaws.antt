@@ -1,4 +1,4 @@
--- A command judged: faulty, it is only recorded, and else it is done. A step is what the decoder's answer makes of the pane.
+-- A command tried: faulty, it is only recorded, and else it is done. A step is what the decoder's answer makes of the pane.
 use mathlib.Core.Path.{_≡_, refl, sym, ap, _∙_}
 use mathlib.Core.List.{List}
 use Prim.Native.Nat.{ℕ}
@@ -11,26 +11,26 @@ use Rattle.model.specs.declared.Decoded.{Decoded}
 use Rattle.model.specs.declared.Decoded.the-variants.{Do, End, Fault}
 use Rattle.model.specs.Bitmaps.{paneSurface, pixels}
 use Rattle.model.specs.Commands.{decode}
-use Rattle.model.specs.Faults.{faultOf}
+use Rattle.model.specs.Faults.{contextOf, faultOf}
 use Rattle.model.specs.Pixels.{changes}
 use Rattle.model.specs.Record.{faulted}
 use Rattle.model.specs.Runs.{carried, stepped}
-use Rattle.model.specs.Steps.{Plan, judged, obey, step}
+use Rattle.model.specs.Steps.{Plan, attempted, obey, step}
 use Rattle.model.proofs.Decisions.{cond-true, cond-false}
 use Rattle.perform.specs.Performing.{finish, performed}
 use Rattle.processor.specs.Obeying.{obeyed, stoppedOf}
 
 module _ (g : Geometry) (r : Row) (p : Pane) (next : ℕ) (c : Command) (screen store : List ℕ) where
-  pub obeyed-fault : (f : ℕ) (q : Pane) → f ≡ faultOf g r p store c → (f ≡ 0 → ⊥) → q ≡ faulted p f
+  pub obeyed-fault : (f : ℕ) (q : Pane) → f ≡ faultOf g r (contextOf p) store c → (f ≡ 0 → ⊥) → q ≡ faulted p f
       → finish 0 0 q screen store ≡ obeyed g r p next c screen store
-  unfolding obeyed judged changes
+  unfolding obeyed attempted changes
   obeyed-fault f q e n h =
       ap (λ (z : Pane). finish 0 0 z screen store) (h ∙ ap (faulted p) e)
-      ∙ sym (ap (λ (z : Plan). carried g r z screen) (cond-false _ _ (ne-eqb (faultOf g r p store c) 0 (λ z. n (e ∙ z)))))
+      ∙ sym (ap (λ (z : Plan). carried g r z screen) (cond-false _ _ (ne-eqb (faultOf g r (contextOf p) store c) 0 (λ z. n (e ∙ z)))))
 
-  pub obeyed-done : faultOf g r p store c ≡ 0 → performed g r p next c screen store ≡ obeyed g r p next c screen store
-  unfolding obeyed judged performed
-  obeyed-done e = sym (ap (λ (z : Plan). carried g r z screen) (cond-true _ _ (eq-eqb (faultOf g r p store c) 0 e)))
+  pub obeyed-done : faultOf g r (contextOf p) store c ≡ 0 → performed g r p next c screen store ≡ obeyed g r p next c screen store
+  unfolding obeyed attempted performed
+  obeyed-done e = sym (ap (λ (z : Plan). carried g r z screen) (cond-true _ _ (eq-eqb (faultOf g r (contextOf p) store c) 0 e)))
 
 -- a step, by the decoder's answer
 module _ (g : Geometry) (r : Row) (p : Pane) (screen store : List ℕ) where

@@ -1,4 +1,4 @@
--- A decoded command judged and done, and what is made of the end and of a fault.
+-- A decoded command tried and done, and what is made of the end and of a fault.
 use mathlib.Core.Path.{_≡_}
 use mathlib.Core.List.{List}
 use Prim.Native.Nat.{ℕ, _≤_}
@@ -9,10 +9,10 @@ use Rattle.model.specs.declared.Command.{Command}
 use Rattle.model.specs.declared.Decoded.{Decoded}
 use Rattle.model.specs.declared.Decoded.the-variants.{Do, End, Fault}
 use Rattle.model.specs.Bitmaps.{paneSurface, pixels}
-use Rattle.model.specs.Faults.{faultOf}
+use Rattle.model.specs.Faults.{contextOf, faultOf}
 use Rattle.model.specs.Record.{ended, faulted}
 use Rattle.model.specs.Runs.{Finish, carried}
-use Rattle.model.specs.Steps.{judged}
+use Rattle.model.specs.Steps.{attempted}
 use Rattle.perform.specs.Performing.{finish, mostDots}
 use Rattle.processor.specs.declared.Finished.{Finished}
 
@@ -23,10 +23,10 @@ finishedWith pane count hits = record { pane = pane; count = count; hits = hits 
 abbrev pub finishOf : Finished → List ℕ → List ℕ → Finish
 finishOf s screen store = finish (s .count) (s .hits) (s .pane) screen store
 
--- a command judged and then done, carried out
+-- a command tried: recorded as faulty, or done, carried out
 unfoldable pub obeyed : Geometry → Row → Pane → ℕ → Command → List ℕ → List ℕ → Finish
 obeyed g r p next c screen store =
-    carried g r (judged g r p (pixels (paneSurface g r) screen) store next c (faultOf g r p store c)) screen
+    carried g r (attempted g r p (pixels (paneSurface g r) screen) store next c (faultOf g r (contextOf p) store c)) screen
 
 -- .. by the code: it leaves what model says, counts one at the most, and draws at most so much
 pub record Obeys (g : Geometry) (r : Row) (p : Pane) (next : ℕ) (c : Command) (screen store : List ℕ)

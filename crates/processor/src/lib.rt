@@ -1,4 +1,4 @@
-// The graphics processor: what stands at the pointer is decoded, judged and done; a run does so while the
+// The graphics processor: what stands at the pointer is decoded, checked and done; a run does so while the
 // status is 1 and budget is left.
 ghost use mathlib.Core.Path.{_≡_};
 ghost use lib.ListN.{length};
@@ -28,13 +28,14 @@ fn finish_with(pane: Pane, count: u32, hits: usize) -> Finished
     Finished { pane, count, hits }
 }
 
-// A command judged: faulty, it is only recorded, and else it is done and counts one.
+// A command tried: faulty, it is only recorded, and else it is done and counts one.
 fn obey(screen: &mut [u8], store: &mut [u8], f: Frame, p: Pane, c: Command, next: u32) -> Finished
     requires { ⌜ Sound (f .geometry) (f .row) p (length (now screen)) (length (now store)) × Addressed c ⌝ }
     ensures { λ s. ⌜ Obeys (f .geometry) (f .row) p next c (now (screen .entry)) (now (store .entry))
         s (now (screen .exit)) (now (store .exit)) ⌝ }
 {
-    let fault = faults::fault_of(store, f, p, c);
+    let x = faults::context_of(p);
+    let fault = faults::fault_of(store, f, x, c);
     if fault != 0 {
         return finish_with(control::faulted(p, fault), 0, 0);
     }
@@ -53,7 +54,7 @@ fn stopped(p: Pane, d: Decoded) -> Pane
     }
 }
 
-// Commands decoded, judged and done while the status is 1 and budget is left. An end word, or a fault of the
+// Commands decoded, checked and done while the status is 1 and budget is left. An end word, or a fault of the
 // decoder, ends the run.
 pub fn run(screen: &mut [u8], store: &mut [u8], f: Frame, p: Pane, budget: u32) -> Finished
     requires { ⌜ Sound (f .geometry) (f .row) p (length (now screen)) (length (now store)) ⌝ }

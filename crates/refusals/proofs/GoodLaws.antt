@@ -1,6 +1,6 @@
 -- A good pane record is one that refusal 12 lets pass, and each part of it may be replaced by a good one.
 use mathlib.Core.Path.{_≡_, refl}
-use mathlib.Core.Bool.{Bool, false, not, _&&_, _||_}
+use mathlib.Core.Bool.{Bool, true, false, not, _&&_, _||_}
 use Prim.Native.Nat.{ℕ, _%_, _≤_, _<_}
 use native.Mathlib.Omega.{arith}
 use lib.Dec.{ltb, eqb}
@@ -22,7 +22,8 @@ use Rattle.model.specs.Bitmaps.{ruleBroken}
 use Rattle.model.specs.Faults.{clipOutside}
 use Rattle.model.specs.Record.{fresh, withPointer, ended, faulted, withPosition, withBitmap, withClip, withColours, withOperation, withPattern, withSpacing}
 use Rattle.model.specs.Record.{withOrientation, withFont, withFlags, withReturns}
-use Rattle.model.specs.Setup.{progressBad, baseBad, fontBad, paneBad}
+use Rattle.model.specs.Effects.{fontOf}
+use Rattle.model.specs.Setup.{progressBad, fontBad, paneBad}
 use Rattle.model.specs.Calls.{started}
 use Rattle.model.proofs.Decisions.{split, either-false}
 use Rattle.refusals.specs.Good.{GoodProgress, Good}
@@ -61,13 +62,10 @@ module _ (p : Progress) where
       (λ e. let f = eqb-true (p .status) statusFaulted e in rw (e, le-ltb (p .fault) 20 (q .least f), le-ltb 30 (p .fault) (q .most f)))
       (λ e. rw (e, eq-eqb (p .fault) 0 (q .none (eqb-false (p .status) statusFaulted e)))))
 
--- a font's base
-pub record GoodBase (a : ℕ) : Type 0 where
-  pub even : a % 2 ≡ 0
-  pub most : a < addressEnd
-
-pub good-baseBad : (a : ℕ) → GoodBase a → baseBad a ≡ false
-good-baseBad a q = let e = q .even in let m = q .most in either-none (ne-eqb (a % 2) 1 (λ o. omega arith)) (lt-leb addressEnd a m)
+-- DEF_CHAR_SET's font
+pub good-fontOf : (t : Bool) (a : ℕ) → (a % 2 ≡ 1 → ⊥) → a < addressEnd → fontBad (fontOf t a) ≡ false
+good-fontOf true a e h = either-none (ne-eqb (a % 2) 1 e) (lt-leb addressEnd a h)
+good-fontOf false a e h = either-none (ne-eqb (a % 2) 1 e) (lt-leb addressEnd a h)
 
 module _ (g : Geometry) (r : Row) (p : Pane) where
   pub paneBad-good : paneBad g r p ≡ false → Good g r p

@@ -11,8 +11,13 @@ use lib.Seq.{take-all}
 use Rattle.model.specs.declared.Geometry.{Geometry}
 use Rattle.model.specs.declared.Row.{Row}
 use Rattle.model.specs.declared.Pane.{Pane}
-use Rattle.model.specs.Calls.{State, Answer, Call, Request, put, start, run, look, pixel, peek, clear, onPane, exec, setUp}
-use Rattle.model.specs.Calls.{rowOf, recordOf, storeOf, setupRefusal, refusal, withPane, accepted}
+use Rattle.model.specs.declared.Verdict.{Verdict}
+use Rattle.model.specs.declared.Verdict.the-variants.{Clean, Found}
+use Rattle.model.specs.Record.{fresh}
+use Rattle.model.specs.Judge.{verdictOf}
+use Rattle.model.specs.Replies.{acceptedWith, verdictValues}
+use Rattle.model.specs.Calls.{State, Answer, Call, Request, put, start, run, look, pixel, peek, clear, judge, onPane, exec, setUp}
+use Rattle.model.specs.Calls.{rowOf, recordOf, storeOf, setupRefusal, refusal, started, withPane, accepted}
 use Rattle.model.proofs.Decisions.{cond-ind}
 use Rattle.script_fields.specs.Fields.{onFirst, pieces, lineFeed, linesOf, mostScript}
 use Rattle.script_lines.specs.declared.Language.{Language}
@@ -24,6 +29,11 @@ use Rattle.script.specs.Scripts.{outcomeText, printed, newState, room, a
 
 -- ## A line
 
+-- a verdict has two values
+verdict-short : (v : Verdict) → Short (acceptedWith (verdictValues v))
+verdict-short (Clean n) = omega arith
+verdict-short (Found f a) = omega arith
+
 -- a call answers seven values at most: those of look
 onPane-short : (g : Geometry) (r : Row) (p : Pane) (screen store : List ℕ) (x : Call) → Short (onPane g r p screen store x .reply)
 unfolding onPane
@@ -34,6 +44,7 @@ onPane-short g r p screen store look = omega arith
 onPane-short g r p screen store (pixel x y) = omega arith
 onPane-short g r p screen store (peek a) = omega arith
 onPane-short g r p screen store clear = omega arith
+onPane-short g r p screen store (judge a) = verdict-short (verdictOf g r store (started fresh a))
 
 exec-short : (s : State) (c : Request) → Short (exec s c .reply)
 unfolding exec accepted withPane

@@ -1,5 +1,5 @@
-// The lines of the calls obeyed: w, g, r, l and x, and k and c of the language of `calls`. Each call is lent
-// the screen's rows and the stores, and nothing more.
+// The lines of the calls obeyed: w, g, r, l and x, and k, c and j of the language of `calls`. Each call is
+// lent the screen's rows and the stores, and nothing more.
 use call_common::Answered;
 use model::Console;
 use script_lines::Call;
@@ -40,6 +40,7 @@ fn make_call(
         Call::Pixel(x, y) => console::pixel(screen, stores, console, pane, x, y),
         Call::Peek(address) => console::peek(screen, stores, console, pane, address),
         Call::Clear => console::clear(screen, stores, console, pane),
+        Call::Judge(address) => console::judge(screen, stores, console, pane, address),
     }
 }
 

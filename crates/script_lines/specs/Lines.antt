@@ -69,9 +69,13 @@ letterPeek = 107
 abbrev pub letterClear : ℕ
 letterClear = 99
 
+-- `j`, in the language of `calls` alone
+abbrev pub letterJudge : ℕ
+letterJudge = 106
+
 -- whether a language has a letter, if either has it
 abbrev pub has : Language → ℕ → Bool
-has language.Panes c = not (eqb c letterPeek || eqb c letterClear)
+has language.Panes c = not (eqb c letterPeek || (eqb c letterClear || eqb c letterJudge))
 has language.Calls c = true
 
 -- ## Forms
@@ -143,6 +147,10 @@ peekForm = form 2 paneAndAddress (λ v fs. asking letterPeek (on (v 0) (calls.pe
 abbrev pub clearForm : Form
 clearForm = form 1 (decimalBase ∷ []) (λ v fs. asking letterClear (on (v 0) calls.clear))
 
+-- judge (02, A.2), in the language of `calls`: `j,pane,address`, with a hex address
+abbrev pub judgeForm : Form
+judgeForm = form 2 paneAndAddress (λ v fs. asking letterJudge (on (v 0) (calls.judge (v 1))))
+
 -- the forms, each by its letter
 abbrev pub forms : List (ℕ × Form)
 forms =
@@ -156,6 +164,7 @@ forms =
     ∷ (letterPixel, pixelForm)
     ∷ (letterPeek, peekForm)
     ∷ (letterClear, clearForm)
+    ∷ (letterJudge, judgeForm)
     ∷ []
 
 -- the form of a letter in a table; a line with any other letter is malformed
@@ -205,6 +214,7 @@ callSaid call.Look buffer = calls.look
 callSaid (call.Pixel x y) buffer = calls.pixel x y
 callSaid (call.Peek a) buffer = calls.peek a
 callSaid call.Clear buffer = calls.clear
+callSaid (call.Judge a) buffer = calls.judge a
 
 abbrev pub lineSaid : declared.Line → List ℕ → Line
 lineSaid (written.Screen g) buffer = sizing g

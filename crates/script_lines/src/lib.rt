@@ -22,7 +22,7 @@ const PANE: u8 = b'p';
 
 pub const OPEN: u8 = b'o';
 
-// The letters of the calls; those of peek and clear are in the language of `calls` alone.
+// The letters of the calls; those of peek, clear and judge are in the language of `calls` alone.
 const PUT: u8 = b'w';
 
 const START: u8 = b'g';
@@ -37,15 +37,18 @@ const PEEK: u8 = b'k';
 
 const CLEAR: u8 = b'c';
 
-// The two languages: that of the program `panes`, and that of `calls`, which has the letters `k` and `c` for
-// peek and clear besides.
+const JUDGE: u8 = b'j';
+
+// The two languages: that of the program `panes`, and that of `calls`, which has the letters `k`, `c` and `j`
+// for peek, clear and judge besides.
 pub enum Language {
     Panes,
     Calls,
 }
 
 // A call on a pane with its values: put (address, how many bytes), start (address), run (budget), look,
-// pixel (x, y), peek (address), clear. The bytes of a put stand at the start of a buffer beside it.
+// pixel (x, y), peek (address), clear, judge (address). The bytes of a put stand at the start of a buffer
+// beside it.
 pub enum Call {
     Put(u32, u32),
     Start(u32),
@@ -54,6 +57,7 @@ pub enum Call {
     Pixel(u32, u32),
     Peek(u32),
     Clear,
+    Judge(u32),
 }
 
 // A line: the screen, a pane, set-up, a call under its letter on a pane, or one that is malformed.
@@ -101,7 +105,7 @@ fn has(language: Language, letter: u8) -> bool
     ensures { λ r. ⌜ r ≡ has language letter ⌝ }
 {
     match language {
-        Language::Panes => !((letter == PEEK) | (letter == CLEAR)),
+        Language::Panes => !((letter == PEEK) | ((letter == CLEAR) | (letter == JUDGE))),
         Language::Calls => true,
     }
 }
@@ -121,6 +125,7 @@ fn reading_of(letter: u8) -> Reading
         PIXEL => read_as(3, ALL_DECIMAL, 3),
         PEEK => read_as(2, PANE_AND_ADDRESS, 2),
         CLEAR => read_as(1, ALL_DECIMAL, 1),
+        JUDGE => read_as(2, PANE_AND_ADDRESS, 2),
         _ => read_as(0, ALL_DECIMAL, 0),
     }
 }
@@ -170,6 +175,7 @@ fn line_of(letter: u8, numbers: [u32; 5], line: &[u8], buffer: &mut [u8]) -> Lin
         PIXEL => Line::Ask(letter, first, Call::Pixel(second, third)),
         PEEK => Line::Ask(letter, first, Call::Peek(second)),
         CLEAR => Line::Ask(letter, first, Call::Clear),
+        JUDGE => Line::Ask(letter, first, Call::Judge(second)),
         _ => Line::Malformed,
     }
 }

@@ -3,6 +3,7 @@
 use model::Progress;
 use model::Ran;
 use model::Reply;
+use model::Verdict;
 use model::View;
 use script_fields::LINE_FEED;
 use script_numerals::coordinate;
@@ -12,7 +13,7 @@ use script_numerals::push;
 use script_numerals::value;
 ghost use Prim.Native.Nat.{_≤_};
 ghost use lib.ListN.{length};
-ghost use Rattle.model.specs.Replies.{ranValues, progressValues, viewValues, response};
+ghost use Rattle.model.specs.Replies.{ranValues, progressValues, viewValues, verdictValues, response};
 ghost use Rattle.script_numerals.specs.Numerals.{Wrote};
 ghost use Rattle.script_replies.specs.Replies.{valuesText, responseText, replyText, malformedText};
 
@@ -52,6 +53,23 @@ fn seen(out: &mut [u8], at: usize, view: View) -> usize
     flag(out, pick, view.trap)
 }
 
+// The values of judge: 0 and the commands walked, or a fault's number and its address.
+fn judged(out: &mut [u8], at: usize, verdict: Verdict) -> usize
+    requires { ⌜ at ≤ length (now out) ⌝ }
+    ensures { λ r. ⌜ Wrote (now (out .entry)) at (valuesText (verdictValues verdict)) (now (out .exit)) r ⌝ }
+{
+    match verdict {
+        Verdict::Clean(walked) => {
+            let clean = value(out, at, 0);
+            value(out, clean, walked)
+        }
+        Verdict::Found(fault, address) => {
+            let found = value(out, at, fault as u32);
+            pointer(out, found, address)
+        }
+    }
+}
+
 // The refusal's number, or 0 and the values.
 fn values(out: &mut [u8], at: usize, reply: Reply) -> usize
     requires { ⌜ at ≤ length (now out) ⌝ }
@@ -71,6 +89,10 @@ fn values(out: &mut [u8], at: usize, reply: Reply) -> usize
         Reply::Value(pixel) => {
             let zero = value(out, at, 0);
             value(out, zero, pixel as u32)
+        }
+        Reply::Judged(verdict) => {
+            let zero = value(out, at, 0);
+            judged(out, zero, verdict)
         }
     }
 }

@@ -104,7 +104,7 @@ pub fn def_char_orient(p: Pane, orientation: u16, next: u32) -> Pane
 }
 
 // The font with its base address, in byte mode or in word mode.
-fn font(bytes: bool, base: u32) -> Font
+pub fn font_of(bytes: bool, base: u32) -> Font
     ensures { λ r. ⌜ r ≡ fontOf bytes base ⌝ }
 {
     if bytes {
@@ -117,7 +117,7 @@ fn font(bytes: bool, base: u32) -> Font
 pub fn def_char_set(p: Pane, base: u32, bytes: bool, next: u32) -> Pane
     ensures { λ r. ⌜ r ≡ withPointer (withFont p (fontOf bytes base)) next ⌝ }
 {
-    let font = font(bytes, base);
+    let font = font_of(bytes, base);
     let old = p.text;
     let text = Text { font, ..old };
     let mut q = p;

@@ -13,7 +13,7 @@ struct File {
 
 // How a script went: a file is missing, the replies differ, there is no script and there are no replies, or
 // they are as expected.
-enum Verdict {
+enum Comparison {
     Missing,
     Differs,
     Empty,
@@ -42,7 +42,7 @@ fn read_file(k: usize, buffer: &mut [u8]) -> File
 }
 
 // Whether the script that argument k names prints what the file after it has.
-fn verdict_on(k: usize) -> Verdict
+fn comparison_of(k: usize) -> Comparison
     requires { ⌜ k + 1 < 2 ^ 64 ⌝ }
 {
     let mut script = io::large_buffer();
@@ -50,40 +50,40 @@ fn verdict_on(k: usize) -> Verdict
     let mut expected = io::large_buffer();
     let due = read_file(k + 1, &mut expected);
     if !(read.found & due.found) {
-        return Verdict::Missing;
+        return Comparison::Missing;
     }
     let n = read.length;
     let m = due.length;
     let mut replies = script::room();
     let written = script::answer(script_lines::Language::Panes, &script[..n], &mut replies);
     if !check::same(&replies[..written], &expected[..m]) {
-        return Verdict::Differs;
+        return Comparison::Differs;
     }
     if n + m == 0 {
-        return Verdict::Empty;
+        return Comparison::Empty;
     }
-    Verdict::Expected
+    Comparison::Expected
 }
 
 // Runs one script, and writes its name and how it went.
-fn judge(k: usize)
+fn compare(k: usize)
     requires { ⌜ k + 1 < 2 ^ 64 ⌝ }
 {
     let mut name = io::buffer();
     let length = os::arg(k, &mut name);
     io::write_all(STDOUT_FILENO, &name[..length]);
-    let v = verdict_on(k);
-    match v {
-        Verdict::Missing => {
+    let found = comparison_of(k);
+    match found {
+        Comparison::Missing => {
             io::write_all(STDOUT_FILENO, b": missing\n");
         }
-        Verdict::Differs => {
+        Comparison::Differs => {
             io::write_all(STDOUT_FILENO, b": differs\n");
         }
-        Verdict::Empty => {
+        Comparison::Empty => {
             io::write_all(STDOUT_FILENO, b": empty, as expected\n");
         }
-        Verdict::Expected => {
+        Comparison::Expected => {
             io::write_all(STDOUT_FILENO, b": as expected\n");
         }
     }
@@ -91,7 +91,7 @@ fn judge(k: usize)
 
 // Of so many arguments, the program's own name among them, the last is a script without its replies if their
 // number is even.
-fn judge_last(count: usize) {
+fn compare_last(count: usize) {
     if count % 2 == 0 {
         io::write_all(STDOUT_FILENO, b"a script without its replies\n");
     }
@@ -102,8 +102,8 @@ fn main() {
     let count = os::arg_count();
     let mut done = 0;
     while done < count / 2 {
-        judge(2 * done + 1);
+        compare(2 * done + 1);
         done += 1;
     }
-    judge_last(count);
+    compare_last(count);
 }

@@ -1,4 +1,4 @@
-//! `calls`: the script program with letters for peek and clear.
+//! `calls`: the script program with letters for peek, clear and the judge.
 
 use reference::script::{run_program, Language};
 

@@ -6,6 +6,7 @@
 
 mod data;
 mod dice;
+mod judges;
 mod lists;
 mod peeks;
 mod scripts;

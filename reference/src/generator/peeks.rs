@@ -1,4 +1,5 @@
-//! The lines that only `calls` takes: peek and clear.
+//! The lines that only `calls` takes: peek and clear, and those with any of its
+//! letters that are refused or malformed.
 
 use super::dice::Dice;
 use super::lists::Plan;
@@ -9,7 +10,7 @@ use super::seasoning::bent_line;
 pub fn peek_lines(dice: &mut Dice, plan: &Plan, list_start: u32) -> Vec<String> {
     let number = plan.number;
     let length = i64::from(plan.store_length);
-    (0..dice.weighted(&[20, 25, 25, 20, 10]))
+    (0..dice.weighted(&[15, 20, 25, 25, 15]))
         .map(|_| {
             let address = match dice.weighted(&[50, 20, 15, 15]) {
                 0 => {
@@ -55,8 +56,11 @@ pub fn clear_lines(dice: &mut Dice, plan: &mut Plan) -> Vec<String> {
 /// A call without regard to what the script does: before an accepted `o` it is
 /// not taken.
 pub fn any_call(dice: &mut Dice) -> String {
-    dice.pick(&["k,0,0", "k,0,1", "k,1,3", "k,7,0", "c,0", "c,1", "c,7"])
-        .to_string()
+    dice.pick(&[
+        "k,0,0", "k,0,1", "k,1,3", "k,7,0", "c,0", "c,1", "c,7", "j,0,0", "j,0,10", "j,1,2",
+        "j,7,0",
+    ])
+    .to_string()
 }
 
 /// A call that is refused or malformed, or a clear in the midst of other calls.
@@ -65,14 +69,26 @@ pub fn odd_call(dice: &mut Dice, panes: i64) -> String {
     match dice.weighted(&[25, 20, 10, 10, 15, 20]) {
         0 => {
             let other = dice.pick(&[panes, panes + 1, 7, 8, 255, 4294967295]);
-            dice.pick(&["k,#,0", "k,#,1", "k,#,ffffffff", "c,#"])
-                .replace('#', &other.to_string())
+            dice.pick(&[
+                "k,#,0",
+                "k,#,1",
+                "k,#,ffffffff",
+                "c,#",
+                "c,#",
+                "j,#,0",
+                "j,#,1",
+            ])
+            .replace('#', &other.to_string())
         }
         1 => {
-            let far = dice.pick(&[0x4000, 0x4001, 0xFFFF, 0x20_0000, 0xFFFF_FFFFu32]);
-            format!("k,{pane},{far:x}")
+            let far = dice.pick(&[0x4000, 0x4001, 0xFFFE, 0xFFFF, 0x20_0000, 0xFFFF_FFFFu32]);
+            format!("{},{pane},{far:x}", dice.pick(&["k", "j"]))
         }
-        2 => format!("k,0{pane},{:05X}", dice.between(0, 300)),
+        2 => format!(
+            "{},0{pane},{:05X}",
+            dice.pick(&["k", "j"]),
+            dice.between(0, 300)
+        ),
         3 => format!("c,{pane}"),
         4 => {
             let good = any_call(dice);
@@ -82,7 +98,7 @@ pub fn odd_call(dice: &mut Dice, panes: i64) -> String {
     }
 }
 
-/// A peek or clear that is malformed.
+/// A peek, clear or judge that is malformed.
 pub fn strange_call(dice: &mut Dice) -> String {
     dice.pick(&[
         "k",
@@ -109,6 +125,20 @@ pub fn strange_call(dice: &mut Dice) -> String {
         "c,a",
         "c,4294967296",
         "C,0",
+        "j",
+        "j,",
+        "j,0",
+        "j,0,",
+        "j,,0",
+        "j,0,g",
+        "j,0,0,0",
+        "j,0,0,",
+        "j,0,-2",
+        "j,0, 0",
+        "j,a,0",
+        "j,0,100000000",
+        "j,4294967296,0",
+        "J,0,0",
     ])
     .to_string()
 }

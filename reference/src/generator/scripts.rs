@@ -1,7 +1,8 @@
 //! Whole scripts.
 
 use super::dice::Dice;
-use super::lists::{Ending, List, Plan};
+use super::judges::{cut_short_lines, judge_between, judge_lines, tower_lines, Judging};
+use super::lists::{Ending, List, Plan, MOST_WORDS};
 use super::peeks::{any_call, clear_lines, peek_lines};
 use super::seasoning::{nonsense, refused, season, strange_line};
 use crate::script::{Language, LONGEST_SCRIPT};
@@ -102,7 +103,7 @@ fn readings(dice: &mut Dice, number: u32, place: Place, room: usize) -> Vec<Stri
 }
 
 /// A put of words.
-fn put_words(number: u32, address: u32, words: &[u16]) -> String {
+pub fn put_words(number: u32, address: u32, words: &[u16]) -> String {
     let bytes: Vec<u8> = words.iter().flat_map(|word| word.to_le_bytes()).collect();
     put_bytes(number, address, &bytes)
 }
@@ -201,10 +202,30 @@ fn pane_groups(
             lines.push(format!("g,{number},{:x}", list.start));
             lines.push(format!("r,{number},9"));
             lines.push(format!("l,{number}"));
+            if language == Language::Calls && dice.chance(50) {
+                lines.push(format!("j,{number},{:x}", list.start));
+            }
             take(&mut groups, lines, &mut room);
         }
     }
     while room > 330 && plan.words_left() > 60 {
+        if language == Language::Calls {
+            if room > 4 * MOST_WORDS && plan.words_left() > MOST_WORDS && dice.chance(12) {
+                let tower = plan.write_tower(dice);
+                let lines = tower_lines(dice, plan, &tower);
+                take(&mut groups, lines, &mut room);
+                continue;
+            }
+            if dice.chance(6) {
+                let lines = cut_short_lines(dice, plan);
+                take(&mut groups, lines, &mut room);
+                continue;
+            }
+        }
+        let judging = match language {
+            Language::Panes => Judging::default(),
+            Language::Calls => Judging::choose(dice, plan),
+        };
         let most = ((room - 60) / 4).min(dice.between(50, 190) as usize);
         let ending = match dice.weighted(&[42, 36, 8, 4, 10]) {
             0 => Ending::End,
@@ -214,9 +235,16 @@ fn pane_groups(
             _ => Ending::Pick,
         };
         let list = plan.write_list(dice, most, ending);
+        plan.plain = false;
         let mut lines = vec![put_words(number, list.start, &list.words)];
-        lines.extend(run_lines(dice, number, &list, ending));
+        lines.extend(judging.lines(number, list.start));
+        let mut running = run_lines(dice, number, &list, ending);
         if language == Language::Calls {
+            judge_between(dice, number, list.start, &mut running);
+        }
+        lines.extend(running);
+        if language == Language::Calls {
+            lines.extend(judge_lines(dice, plan, &list));
             lines.extend(peek_lines(dice, plan, list.start));
             lines.extend(clear_lines(dice, plan));
         }

@@ -55,6 +55,10 @@ pub fn season(dice: &mut Dice, language: Language, body: &mut Vec<String>, count
             let line = odd_call(dice, count);
             insert_anywhere(dice, body, line);
         }
+    } else if dice.chance(15) {
+        // A letter that `panes` doesn't have.
+        let line = any_call(dice);
+        insert_anywhere(dice, body, line);
     }
 }
 

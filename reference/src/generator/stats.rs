@@ -5,6 +5,7 @@ use super::script;
 use crate::bitmaps::{Bitmap, PANE_ADDRESS};
 use crate::calls::lend;
 use crate::decode::Command;
+use crate::judge::MOST_WALKED;
 use crate::record::RUNNING;
 use crate::script::{decimal, hex, lines_of, Language, Session, LARGEST_STORES};
 use crate::step::{step, Outcome};
@@ -29,6 +30,13 @@ pub struct Stats {
     pub peeks: u64,
     /// How many of them read a byte that a run had changed.
     pub peeks_of_drawn: u64,
+    /// What judges replied: 0 is clean.
+    pub verdicts: BTreeMap<u32, u64>,
+    /// How many of the clean lists have as many commands as a judge walks.
+    pub clean_at_limit: u64,
+    /// How many verdicts were followed by a run of that list on the cleared
+    /// pane.
+    pub verdicts_run: u64,
     pub depths: BTreeMap<u32, u64>,
     pub panes: BTreeMap<usize, u64>,
     pub picked: u64,
@@ -55,6 +63,7 @@ impl Stats {
         let mut session = Session::new(language);
         let mut done = 0;
         let mut drawn = vec![false; LARGEST_STORES as usize];
+        let mut before: Vec<&[u8]> = Vec::new();
         for line in lines_of(text) {
             self.lines += 1;
             done += self.watch_run(&session, line);
@@ -79,6 +88,14 @@ impl Stats {
                 let at = peeked(&session, line);
                 self.peeks_of_drawn += u64::from(at.is_some_and(|at| drawn[at]));
             }
+            if letter == 'j' && number == 0 {
+                let verdict = fields[2].parse().unwrap_or(0);
+                *self.verdicts.entry(verdict).or_default() += 1;
+                let limit = MOST_WALKED.to_string();
+                self.clean_at_limit += u64::from(verdict == 0 && fields[3] == limit);
+            }
+            self.verdicts_run += u64::from(follows_judge(&before, line));
+            before.push(line);
             if letter == 'r' {
                 for (at, (old, new)) in stores.iter().zip(&session.stores).enumerate() {
                     drawn[at] |= old != new;
@@ -177,6 +194,12 @@ impl Stats {
                 self.peeks, self.peeks_of_drawn
             ));
         }
+        if !self.verdicts.is_empty() {
+            text.push(format!(
+                "verdicts {:?}, {} of those with 0 at the limit, {} then run on the cleared pane",
+                self.verdicts, self.clean_at_limit, self.verdicts_run
+            ));
+        }
         text.push(format!("depths {:?}, panes {:?}", self.depths, self.panes));
         text.push(format!(
             "runs to an end word {}, looks with pick flag {}, with trap flag {}",
@@ -204,6 +227,18 @@ impl Stats {
         }
         text.join("\n")
     }
+}
+
+/// Whether a line runs a pane, after three that judge an address, clear the
+/// pane and start there.
+fn follows_judge(before: &[&[u8]], line: &[u8]) -> bool {
+    let [.., judge, clear, start] = before else {
+        return false;
+    };
+    let (Some(judged), Some(started)) = (judge.strip_prefix(b"j"), start.strip_prefix(b"g")) else {
+        return false;
+    };
+    judged == started && clear.starts_with(b"c") && line.starts_with(b"r")
 }
 
 /// Where the byte of an accepted peek stands in the stores.

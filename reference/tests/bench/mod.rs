@@ -4,6 +4,7 @@
 #![allow(dead_code)]
 
 use reference::calls::{self, LookReply, RunReply};
+use reference::judge::Verdict;
 use reference::record::PaneRecord;
 use reference::setup::{set_up, Console};
 use reference::table::{Geometry, Row};
@@ -107,6 +108,10 @@ impl Bench {
 
     pub fn clear(&mut self, pane: u32) -> Result<(), Refusal> {
         calls::clear(&mut self.console, &self.screen, &self.stores, pane)
+    }
+
+    pub fn judge(&self, pane: u32, address: u32) -> Result<Verdict, Refusal> {
+        calls::judge(&self.console, &self.screen, &self.stores, pane, address)
     }
 
     pub fn record(&mut self) -> &mut PaneRecord {

@@ -8,26 +8,26 @@ use Rattle.fault_copies.proofs.SharingLaws.{sharing-pane}
 use Rattle.fault_copies.proofs.sharing.Statement.{statement}
 use Rattle.fault_copies.proofs.sharing.Tie as tie
 
--- what is judged
-abbrev judged : tie.Start → Bitmap → Bool
-judged s b = sharing (s .args .active) b (s .args .s) (rectangleOf (s .args .b))
+-- what is asked for
+abbrev asked : tie.Start → Bitmap → Bool
+asked s b = sharing (s .args .active) b (s .args .s) (rectangleOf (s .args .b))
 
 -- no bitmap
 returns : tie.Need-returns
 unfolding sharing
-returns c = sym (ap (judged (c .before .before)) (c .enum-told .given .1))
+returns c = sym (ap (asked (c .before .before)) (c .enum-told .given .1))
 
 -- the pane
 returns-2 : tie.Need-returns-2
 returns-2 c =
     let s = c .before .before .before in
     c .is-pane .ensures
-    ∙ sym (ap (judged s) (c .before .enum-told2 .given .1) ∙ sharing-pane (s .args .active) _ _ _ (s .args .s) (rectangleOf (s .args .b)))
+    ∙ sym (ap (asked s) (c .before .enum-told2 .given .1) ∙ sharing-pane (s .args .active) _ _ _ (s .args .s) (rectangleOf (s .args .b)))
 
 -- a bitmap of the store
 returns-3 : tie.Need-returns-3
 unfolding sharing
-returns-3 c = c .rows-touch .ensures ∙ sym (ap (judged (c .before .before .before)) (c .before .enum-told3 .given .1))
+returns-3 c = c .rows-touch .ensures ∙ sym (ap (asked (c .before .before .before)) (c .before .enum-told3 .given .1))
 
 pub sharing-spec : {M : Type 1} → statement M
 sharing-spec =

@@ -6,13 +6,13 @@ use borrow.Author.Needs.{needs}
 use Rattle.model.specs.Faults.{faultOf}
 use Rattle.model.specs.Commands.{Addressed, pairsAt, triplesAt}
 use Rattle.bitmaps.proofs.AreaLaws.{placed-sizes}
-use Rattle.faults.proofs.JudgingLaws.{judged-active, string-addressed}
+use Rattle.faults.proofs.CheckingLaws.{checkable-active, string-addressed}
 use Rattle.faults.proofs.fault_of.Statement.{statement}
 use Rattle.faults.proofs.fault_of.Tie as tie
 
--- the entry, from the place where the record is read
-abbrev entry : tie.After-text → tie.Start
-entry c = c .before .before .before .before
+-- the entry, from the place where the row is read
+abbrev entry : tie.After-r → tie.Start
+entry c = c .before .before
 
 pub fault-of-spec : {M : Type 1} → statement M
 unfolding faultOf
@@ -71,8 +71,8 @@ fault-of-spec =
     (λ c κs. string-addressed (c .before .c7 .given .1) (entry (c .before .before .before) .pre .0) (entry (c .before .before .before) .pre .1))
     (λ c. search needs)
     -- BIT_BLT_M
-    (λ c κs. judged-active (entry (c .before .before .before) .pre .0))
-    (λ c κs. (judged-active (entry (c .before .before .before .before) .pre .0), c .source-of .ensures .1))
+    (λ c κs. checkable-active (entry (c .before .before .before) .pre .0))
+    (λ c κs. (checkable-active (entry (c .before .before .before .before) .pre .0), c .source-of .ensures .1))
     (λ c κs. search needs)
     (λ c. search needs)
     -- SCAN_LINES

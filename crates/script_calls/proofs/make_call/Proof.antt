@@ -37,6 +37,8 @@ make-call-spec =
     (λ c. search needs)
     (λ c κs. search needs)
     (λ c. search needs)
+    (λ c κs. search needs)
+    (λ c. search needs)
     (λ c. search needs)
     returns
     (λ c. search needs)
@@ -62,4 +64,8 @@ make-call-spec =
     (λ c. search needs)
     (λ c. search needs)
     -- clear
-    (λ c. rw (c .before .before .before .enum-told2 .given .1) (c .clear .ensures)))
+    (λ c. rw (c .before .before .before .enum-told2 .given .1) (c .clear .ensures))
+    (λ c. search needs)
+    (λ c. search needs)
+    -- judge
+    (λ c. rw (c .before .before .before .before .call6 .given .1) (c .judge .ensures)))

@@ -37,5 +37,7 @@ line-of-spec =
     (λ c. rw (c .match .keys9) (simp getD-among))
     -- c
     (λ c. rw (c .match .keys10) (simp getD-among))
+    -- j
+    (λ c. rw (c .match .keys11) (simp getD-among))
     -- any other
     (λ c. rw (formOf-other _ (c .match .rest))))

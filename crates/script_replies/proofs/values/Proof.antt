@@ -30,6 +30,12 @@ returns-5 c =
     let zero = c .before .before .before .before .before .before in
     rw (zero .before .before .before .reply4 .given .1) (Wrote-values _ _ (zero .value5 .ensures) (c .before .before .value6 .ensures))
 
+-- judge
+returns-6 : tie.Need-returns-6
+returns-6 c =
+    let zero = c .before .before .before .before .before .before in
+    rw (zero .before .before .before .reply5 .given .1) (Wrote-values _ _ (zero .value7 .ensures) (c .before .before .judged .ensures))
+
 pub values-spec : {M : Type 1} → statement M
 values-spec =
     tie.close
@@ -50,6 +56,9 @@ values-spec =
     (λ c. search needs)
     (λ c κs. search needs)
     (λ c. search needs)
+    (λ c κs. search needs)
+    (λ c κs. search needs)
+    (λ c. search needs)
     returns
     (λ c. search needs)
     returns-2
@@ -58,4 +67,6 @@ values-spec =
     (λ c. search needs)
     returns-4
     (λ c. search needs)
-    returns-5)
+    returns-5
+    (λ c. search needs)
+    returns-6)

@@ -14,12 +14,13 @@ use Rattle.script_setup.proofs.after_set_up.Statement.{statement}
 use Rattle.script_setup.proofs.after_set_up.Tie as tie
 
 -- a reply that is no refusal opens as one without values does
-accepted : (s : Session) (a : Reply) → OneOf (1 ∷ 2 ∷ 3 ∷ 4 ∷ []) (tagOf the-type a) → afterSetUp s (response a) ≡ afterSetUp s (response reply.Done)
-accepted s (reply.Refused n) h = absurd (miss (1 ∷ 2 ∷ 3 ∷ 4 ∷ []) 0 tt h)
+accepted : (s : Session) (a : Reply) → OneOf (1 ∷ 2 ∷ 3 ∷ 4 ∷ 5 ∷ []) (tagOf the-type a) → afterSetUp s (response a) ≡ afterSetUp s (response reply.Done)
+accepted s (reply.Refused n) h = absurd (miss (1 ∷ 2 ∷ 3 ∷ 4 ∷ 5 ∷ []) 0 tt h)
 accepted s reply.Done h = refl
 accepted s (reply.Ran r) h = refl
 accepted s (reply.Seen v) h = refl
 accepted s (reply.Value n) h = refl
+accepted s (reply.Judged v) h = refl
 
 returns : tie.Need-returns
 returns c = c .replied .ensures ∙ rw (c .before .enum-told .given .1)

@@ -12,6 +12,29 @@ use crate::opcodes;
 /// Opcodes that the paper leaves out; most of them are the chip's.
 const UNKNOWN: [u16; 9] = [0x00, 0x0E, 0x29, 0x34, 0x68, 0x69, 0x73, 0xB4, 0xD4];
 
+/// Commands that end a store too early if their last words are missing.
+const CUT_SHORT: [&[u16]; 5] = [
+    &[opcodes::LINK << 8, 0, 0],
+    &[opcodes::CALL << 8, 0, 0],
+    &[
+        opcodes::DEF_BITMAP << 8,
+        0,
+        (PANE_ADDRESS >> 16) as u16,
+        0,
+        0,
+        1,
+    ],
+    &[opcodes::DEF_BITMAP << 8, 0, 0, 0, 0, 1],
+    &[opcodes::CIRCLE << 8, 1],
+];
+
+/// The first words of a command, too few of them, for the end of a store.
+pub fn cut_short(dice: &mut Dice) -> Vec<u16> {
+    let whole = dice.pick(&CUT_SHORT);
+    let count = dice.between(1, whole.len() as i64 - 1) as usize;
+    whole[..count].to_vec()
+}
+
 impl Plan {
     /// A command that faults with the number.
     pub fn fault(&mut self, dice: &mut Dice, list: &mut List, number: u32) {

@@ -6,9 +6,12 @@ mod faults;
 mod numbers;
 mod plan;
 mod settings;
+mod towers;
 
 use super::dice::Dice;
+pub use faults::cut_short;
 pub use plan::Plan;
+pub use towers::{Tower, MOST_WORDS};
 
 /// A list under way: where it will stand and its words so far.
 pub struct List {

@@ -28,6 +28,9 @@ pub struct Plan {
     pub picking: bool,
     /// Whether the pane was filled with bytes of the store.
     pub filled: bool,
+    /// Whether lists do without LINK and bitmaps in the store, at which the
+    /// judge stops.
+    pub plain: bool,
 }
 
 /// First words of commands, most of which lack their parameter words at the
@@ -104,6 +107,7 @@ impl Plan {
             byte_mode: None,
             picking: false,
             filled: false,
+            plain: false,
         }
     }
 
@@ -278,7 +282,7 @@ impl Plan {
             list.add(dice, opcodes::EXIT_PICK, &[]);
             self.picking = false;
         }
-        if dice.chance(75) {
+        if self.plain || dice.chance(75) {
             self.define_pane(dice, list);
         } else {
             self.define_spot(dice, list);
@@ -327,6 +331,7 @@ impl Plan {
             1 => self.settle(dice, list),
             2 => self.travel(dice, list),
             3 => self.wander(dice, list),
+            4 if self.plain => self.define_pane(dice, list),
             4 if self.active.is_none() || dice.chance(30) => self.define_spot(dice, list),
             4 => self.define_pane(dice, list),
             _ => {

@@ -58,6 +58,7 @@ impl Plan {
     pub fn wander(&mut self, dice: &mut Dice, list: &mut List) {
         match dice.weighted(&[25, 30, 45]) {
             0 => list.add(dice, opcodes::NOP, &[]),
+            1 if self.plain => list.add(dice, opcodes::NOP, &[]),
             1 => {
                 let skipped = dice.between(0, 2) as u32;
                 let [lower, upper] = split(dice, list.here() + 6 + 2 * skipped);

@@ -1,6 +1,6 @@
 -- Start replaces the record of the pane, and keeps everything else.
 use mathlib.Core.Path.{refl}
-use Rattle.model.specs.Calls.{onPane}
+use Rattle.model.specs.Calls.{start, ownRefusal, onPane}
 use Rattle.call_common.proofs.CallLaws.{exec-refused, exec-refused-own, exec-record}
 use borrow.Author.Needs.{needs}
 use Rattle.call_record.proofs.start.start.Statement.{statement}
@@ -10,20 +10,21 @@ returns : tie.Need-returns
 returns c = exec-refused _ _ _ (c .before .before .before .admit .ensures) (c .refused .ensures) (c .before .if1 .taken)
 
 returns-2 : tie.Need-returns-2
+unfolding ownRefusal
 returns-2 c =
     let admitted = c .before .before .before in
-    exec-refused-own _ _ _ (admitted .before .before .admit .ensures) (admitted .if1 .left) (c .before .before .start-refusal .ensures _)
+    exec-refused-own _ _ (start _) (admitted .before .before .admit .ensures) (admitted .if1 .left) (c .before .before .start-refusal .ensures)
     (c .refused2 .ensures) (c .before .if2 .taken)
 
 with-record-requires : tie.Need-with-record-requires
 with-record-requires c κs = let admitted = c .before .before .before in admitted .before .before .admit .ensures .granted (admitted .if1 .left) .admitted .index
 
 returns-3 : tie.Need-returns-3
-unfolding onPane
+unfolding ownRefusal onPane
 returns-3 c =
     let passed = c .before .before in
     let admitted = passed .before .before in
-    exec-record _ _ _ (admitted .before .before .admit .ensures) (admitted .if1 .left) (passed .before .start-refusal .ensures _) (passed .if2 .left) _ refl
+    exec-record _ _ (start _) (admitted .before .before .admit .ensures) (admitted .if1 .left) (passed .before .start-refusal .ensures) (passed .if2 .left) _ refl
     (c .with-record .ensures) (c .before .started .ensures)
 
 pub start-spec : {M : Type 1} → statement M

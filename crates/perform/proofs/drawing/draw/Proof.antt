@@ -31,7 +31,7 @@ source-at : (c : tie.After-area-of) →
     let a = entry (read c) .args in
     let named = c .before .before .before .c8 .given .0 in
     c .area-of .result
-    ≡ areaOf (a .f .geometry) (a .f .row) (sourceBitmap (a .f .geometry) (a .f .row) (a .p) (named .0) (named .1 .0) (named .1 .1 .0))
+    ≡ areaOf (a .f .geometry) (a .f .row) (sourceBitmap (a .f .geometry) (a .f .row) (a .p .bitmap) (named .0) (named .1 .0) (named .1 .1 .0))
 source-at c =
     let a = entry (read c) .args in
     c .area-of .ensures ∙ ap (areaOf (a .f .geometry) (a .f .row)) (c .before .source-of .ensures .0)

@@ -1,0 +1,2 @@
+-- What the judge relies on once a call is admitted.
+pub mod FreshLaws

@@ -1,0 +1,3 @@
+-- What the contracts of `judge` cite beside model's walk.
+pub mod Roles
+pub mod Levels
