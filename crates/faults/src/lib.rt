@@ -8,7 +8,6 @@ use model::Command;
 use model::Context;
 use model::Font;
 use model::Frame;
-use model::Pane;
 use model::Row;
 use words::number_if;
 ghost use mathlib.Core.Path.{_≡_};
@@ -40,7 +39,6 @@ ghost use Rattle.model.specs.Faults.{
   stringBad,
   descriptorsBad,
   copyFault,
-  contextOf,
   faultOf,
 };
 ghost use Rattle.bitmaps.specs.Areas.{Active};
@@ -203,21 +201,6 @@ fn copy_fault(f: Frame, active: Bitmap, source: Bitmap, b: Block) -> u8
 }
 
 // ---- All commands
-
-// What of a record the faults of a command depend on.
-pub fn context_of(p: Pane) -> Context
-    ensures { λ x. ⌜ x ≡ contextOf p ⌝ }
-{
-    let bitmap = p.bitmap;
-    let text = p.text;
-    let font = text.font;
-    let returns = p.returns;
-    Context {
-        bitmap,
-        font,
-        kept: returns.count,
-    }
-}
 
 // A command's fault, or 0 for none.
 pub fn fault_of(store: &[u8], f: Frame, x: Context, c: Command) -> u8

@@ -7,6 +7,7 @@ ghost use Rattle.model.specs.Runs.{runs};
 ghost use Rattle.perform.specs.Performing.{Sound};
 ghost use Rattle.processor.specs.Obeying.{Obeys, finishedWith, finishOf, stoppedOf};
 use model::Command;
+use model::Context;
 use model::Decoded;
 use model::Frame;
 use model::Pane;
@@ -34,7 +35,14 @@ fn obey(screen: &mut [u8], store: &mut [u8], f: Frame, p: Pane, c: Command, next
     ensures { λ s. ⌜ Obeys (f .geometry) (f .row) p next c (now (screen .entry)) (now (store .entry))
         s (now (screen .exit)) (now (store .exit)) ⌝ }
 {
-    let x = faults::context_of(p);
+    let bitmap = p.bitmap;
+    let text = p.text;
+    let font = text.font;
+    let x = Context {
+        bitmap,
+        font,
+        kept: p.returns.count,
+    };
     let fault = faults::fault_of(store, f, x, c);
     if fault != 0 {
         return finish_with(control::faulted(p, fault), 0, 0);
