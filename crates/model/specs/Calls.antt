@@ -14,7 +14,8 @@ use Rattle.model.specs.Runs.{Finish, runs}
 use Rattle.model.specs.Judge.{verdictOf}
 use Rattle.model.specs.Setup.{rowAt, paneAt, checks, paneBad}
 pub use Rattle.model.specs.declared.Console.{Console}
-use Rattle.model.specs.Replies.{Response, refusedWith, acceptedWith, natural, ranValues, viewValues, verdictValues}
+use Rattle.model.specs.Replies.{Response, refusedWith, acceptedWith, natural, ranValues, viewValues}
+use Rattle.model.specs.Replies.{verdictValues}
 
 -- the console record and the two buffers, as lent to a call and as left by it
 pub record State : Type 0 where

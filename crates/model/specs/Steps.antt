@@ -1,4 +1,4 @@
--- One command (01, "One command"): its faults looked for, then planned. Nothing here sees the screen: a step gets a reader
+-- One command (01, "One command"): checked, then planned. Nothing here sees the screen: a step gets a reader
 -- of its own pane's pixels, and answers the next record, the next store and the changes to the pane's pixels.
 use Prim.Native.Nat.{ℕ}
 use mathlib.Core.List.{List, []}

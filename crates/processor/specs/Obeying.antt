@@ -26,7 +26,8 @@ finishOf s screen store = finish (s .count) (s .hits) (s .pane) screen store
 -- a command tried: recorded as faulty, or done, carried out
 unfoldable pub obeyed : Geometry → Row → Pane → ℕ → Command → List ℕ → List ℕ → Finish
 obeyed g r p next c screen store =
-    carried g r (attempted g r p (pixels (paneSurface g r) screen) store next c (faultOf g r (contextOf p) store c)) screen
+    carried g r
+    (attempted g r p (pixels (paneSurface g r) screen) store next c (faultOf g r (contextOf p) store c)) screen
 
 -- .. by the code: it leaves what model says, counts one at the most, and draws at most so much
 pub record Obeys (g : Geometry) (r : Row) (p : Pane) (next : ℕ) (c : Command) (screen store : List ℕ)
