@@ -52,7 +52,8 @@ barredFault (command.ScanLines a n) = 0
 unfoldable pub judgedFault : Geometry → Row → Context → List ℕ → Command → ℕ
 judgedFault g r x store c = orElse (barredFault c) (faultOf g r x store c)
 
--- the record that a command leaves, by the address after it. What the pane shows decides nothing that a fault
+-- the record that a command leaves, by the address after it. "It follows CALL up to eight deep": CALL keeps its
+-- return address in the record, and a ninth is its fault 26. What the pane shows decides nothing that a fault
 -- depends on, so 0 stands for every pixel
 unfoldable pub recordAfter : Geometry → Row → Pane → List ℕ → ℕ → Command → Pane
 recordAfter g r p store next c = planOf g r p store next (effectOf g r p (λ x y. 0) store next c) .pane
@@ -94,6 +95,6 @@ abbrev pub tallied : Verdict → Verdict
 tallied (Clean n) = Clean (mostWalked - n)
 tallied (Found f a) = Found f a
 
--- the list that a record has begun
+-- the verdict on the list that a record has begun
 unfoldable pub verdictOf : Geometry → Row → List ℕ → Pane → Verdict
 verdictOf g r store p = tallied (listWalk g r store mostWalked p)
