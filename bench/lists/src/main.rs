@@ -1,6 +1,8 @@
 //! Times lists that loop by LINK on the proved console and on the second implementation, in one run, and prints
 //! the ratios. Both end with the same screen and store, which is checked. Then times the judges of both, beside a
-//! run of the same list.
+//! run of the same list, and horizontal runs beside memset.
+
+mod runs;
 
 use reference::calls;
 use reference::judge::Verdict;
@@ -270,4 +272,6 @@ fn main() {
     print_runs();
     println!();
     print_judging();
+    println!();
+    runs::print_table();
 }

@@ -22,6 +22,8 @@ use Rattle.coordinates.proofs.SignedLaws.{natAbs-coord}
 use Rattle.canvas.proofs.CanvasLaws.{listed-length}
 use Rattle.canvas.proofs.LoopLaws.{Underway, underway-first, underway-next, underway-last}
 use Rattle.draw_lines.specs.Segments.{longestLine}
+use Rattle.draw_arrays.specs.declared.Triple as code
+use Rattle.draw_arrays.specs.Arrays.{tripleWords}
 
 -- ## How long a line is
 
@@ -90,10 +92,18 @@ abbrev pub tripleAt : List ℕ → ℕ → ℕ → Triple
 tripleAt store a k =
     record { dx = coord (wordAt store (a + 6 * k)); dy = coord (wordAt store (a + 6 * k + 2)); len = coord (wordAt store (a + 6 * k + 4)) }
 
+-- a triple whose words read alike
+pub triple-same : (l m : List ℕ) (a : ℕ) → ((j : ℕ) → a ≤ j → j + 1 < a + 6 → wordAt l j ≡ wordAt m j) → tripleWords l a ≡ tripleWords m a
+triple-same l m a h =
+    let p = h a (omega arith) (omega arith) in
+    let q = h (a + 2) (omega arith) (omega arith) in
+    let r = h (a + 4) (omega arith) (omega arith) in
+    λ i. record { dx = p i; dy = q i; len = r i }
+
 -- a horizontal LINE where the position has moved to, and what is left from there
-pub scanLines-next : (pen : Pen) (store : List ℕ) (a n k : ℕ) (p p′ : Point) {dx dy len : ℕ} → k < n
-    → dx ≡ wordAt store (a + 6 * k) → dy ≡ wordAt store (a + 6 * k + 2) → len ≡ wordAt store (a + 6 * k + 4) → p′ ≡ moved p (coord dx) (coord dy)
+pub scanLines-next : (pen : Pen) (store : List ℕ) (a n k : ℕ) (p p′ : Point) (s : code.Triple) → k < n
+    → s ≡ tripleWords store (a + 6 * k) → p′ ≡ moved p (coord (s .dx)) (coord (s .dy))
     → itemsLeft (scanLines pen) (tripleAt store a) n k p
-    ≡ prepended (lineDots pen (place p′) (coord len) (pos 0)) (itemsLeft (scanLines pen) (tripleAt store a) n (k + 1) p′)
+    ≡ prepended (lineDots pen (place p′) (coord (s .len)) (pos 0)) (itemsLeft (scanLines pen) (tripleAt store a) n (k + 1) p′)
 unfolding scanLines
-scanLines-next pen store a n k p p′ h ex ey el ep = itemsLeft-next (scanLines pen) (tripleAt store a) n k p h ∙ rw (ep, ex, ey, el)
+scanLines-next pen store a n k p p′ s h es ep = itemsLeft-next (scanLines pen) (tripleAt store a) n k p h ∙ rw (ep, es)

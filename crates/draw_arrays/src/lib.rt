@@ -1,14 +1,18 @@
 // POLYLINE and SCAN_LINES: the lines that an array in the store names. The array may stand in the store that
 // is drawn on; it is read as the lines are drawn, and no line touches it.
+ghost use mathlib.Core.Path.{_≡_};
+ghost use mathlib.Core.Bool.{false};
 ghost use Prim.Native.Nat.{_+_, _*_, _≤_, _<_};
 ghost use lib.IntN.{pos};
 ghost use lib.ListN.{length};
 ghost use Rattle.model.specs.Coordinates.{coord, place, moved};
 ghost use Rattle.model.specs.Dots.{drawing};
 ghost use Rattle.model.specs.Lines.{lineDots, pairsAt, polyline, triplesAt, scanLines};
-ghost use Rattle.canvas.specs.Canvas.{canvas, countEnd, Drew, Reach};
+ghost use Rattle.canvas.specs.Canvas.{canvas, countEnd, Drew, Painted, Reach};
 ghost use Rattle.canvas.specs.Targets.{Ready};
+ghost use Rattle.spans.specs.Spans.{Strung};
 ghost use Rattle.draw_lines.specs.Segments.{longestLine};
+ghost use Rattle.draw_arrays.specs.Arrays.{tripleWords};
 use canvas::Drawn;
 use canvas::Target;
 use model::Point;
@@ -59,23 +63,63 @@ pub fn polyline(
     d
 }
 
+// A triple of SCAN_LINES: the move to the start of a horizontal line, and that line's length.
+struct Triple {
+    pub dx: u16,
+    pub dy: u16,
+    pub len: u16,
+}
+
+// The triple at a byte of the store.
+fn triple_at(store: &[u8], at: usize) -> Triple
+    requires { ⌜ at + 5 < length (now store) ⌝ }
+    ensures { λ r. ⌜ r ≡ tripleWords (now (store .entry)) at ⌝ }
+{
+    let dx = words::word(store, at);
+    let dy = words::word(store, at + 2);
+    let len = words::word(store, at + 4);
+    Triple { dx, dy, len }
+}
+
+// A horizontal LINE by `len` from a position: to the right by the strips that it is handed, to the left by its
+// own. Hits and how many of its pixels are visible.
+fn line_either_way(
+    screen: &mut [u8],
+    store: &mut [u8],
+    strips: &[u8],
+    t: Target,
+    from: Point,
+    len: u16,
+    hits: usize,
+) -> usize
+    requires { ⌜ Ready t (length (now screen)) (length (now store)) × Strung t false (now strips)
+        × (hits + longestLine < countEnd) ⌝ }
+    ensures { λ r. ⌜ Painted t (lineDots (t .pen) (place from) (coord len) (pos 0))
+        (canvas (now (screen .entry)) (now (store .entry)) hits) (canvas (now (screen .exit)) (now (store .exit)) r) ⌝ }
+{
+    if coordinates::is_negative(len) {
+        return draw_lines::lone_line(screen, store, t, from, len, hits);
+    }
+    draw_lines::level_line(screen, store, strips, t, from, len, hits)
+}
+
 // One triple of SCAN_LINES: the position moves by (dx,dy), and stays at the start of a horizontal LINE.
 fn scan(
     screen: &mut [u8],
     store: &mut [u8],
+    strips: &[u8],
     t: Target,
     from: Drawn,
-    dx: u16,
-    dy: u16,
-    len: u16,
+    s: Triple,
 ) -> Drawn
-    requires { ⌜ Ready t (length (now screen)) (length (now store)) × (from .hits + longestLine < countEnd) ⌝ }
-    ensures { λ d. ⌜ Drew t (drawing (lineDots (t .pen) (place (d .position)) (coord len) (pos 0))
-        (moved (from .position) (coord dx) (coord dy)))
+    requires { ⌜ Ready t (length (now screen)) (length (now store)) × Strung t false (now strips)
+        × (from .hits + longestLine < countEnd) ⌝ }
+    ensures { λ d. ⌜ Drew t (drawing (lineDots (t .pen) (place (d .position)) (coord (s .len)) (pos 0))
+        (moved (from .position) (coord (s .dx)) (coord (s .dy))))
         (canvas (now (screen .entry)) (now (store .entry)) (from .hits)) d (now (screen .exit)) (now (store .exit)) ⌝ }
 {
-    let position = coordinates::move_by(from.position, dx, dy);
-    let hits = draw_lines::level_line(screen, store, t, position, len, from.hits);
+    let position = coordinates::move_by(from.position, s.dx, s.dy);
+    let hits = line_either_way(screen, store, strips, t, position, s.len, from.hits);
     Drawn {
         position,
         trap: false,
@@ -83,7 +127,8 @@ fn scan(
     }
 }
 
-// SCAN_LINES by the n triples at a byte of the store: each moves the position, and draws a LINE from there.
+// SCAN_LINES by the n triples at a byte of the store: each moves the position, and draws a LINE from there. The
+// strips for lines to the right are worked out once.
 pub fn scan_lines(
     screen: &mut [u8],
     store: &mut [u8],
@@ -97,6 +142,7 @@ pub fn scan_lines(
     ensures { λ d. ⌜ Drew t (scanLines (t .pen) from (triplesAt (now (store .entry)) array n))
         (canvas (now (screen .entry)) (now (store .entry)) 0) d (now (screen .exit)) (now (store .exit)) ⌝ }
 {
+    let strips = spans::strips_of(t, false);
     let mut d = Drawn {
         position: from,
         trap: false,
@@ -104,11 +150,8 @@ pub fn scan_lines(
     };
     let mut k = 0;
     while k < n {
-        let at = array + 6 * k;
-        let dx = words::word(store, at);
-        let dy = words::word(store, at + 2);
-        let len = words::word(store, at + 4);
-        d = scan(screen, store, t, d, dx, dy, len);
+        let s = triple_at(store, array + 6 * k);
+        d = scan(screen, store, &strips, t, d, s);
         k += 1;
     }
     d

@@ -1,15 +1,12 @@
 -- Columns or rows cropped to a clip's, and a copy cropped to its clip: what lies outside draws nothing.
--- A coordinate is compared by a number that is 32768 more than it, and so never negative.
-use mathlib.Core.Path.{_≡_, ap, _∙_}
-use mathlib.Core.Logic.{_⊎_, inl, inr}
-use mathlib.Core.Bool.{false, _&&_, and-false}
+use mathlib.Core.Path.{_≡_, sym, ap, _∙_}
+use mathlib.Core.Bool.{false, _&&_}
 use mathlib.Core.List.{List}
-use Prim.Native.Nat.{ℕ, suc, _+_, _-_, _%_, _≤_, _<_, max, min}
-use native.Mathlib.Decide.{decLt}
+use Prim.Native.Nat.{ℕ, suc, _+_, _-_, _≤_, _<_}
 use native.Mathlib.Omega.{arith}
-use borrow.Author.Tests.{ltb-true, ltb-false, lt-ltb, le-ltb, lt-leb}
+use borrow.Author.Tests.{le-ltb}
 use lib.Dec.{leb, ltb}
-use lib.IntN.{ℤ, pos, _+ℤ_}
+use lib.IntN.{ℤ, pos, _+ℤ_, +ℤ-idr}
 use Rattle.model.specs.Ranges.{listed, joined}
 use Rattle.model.specs.declared.Block.{Block}
 use Rattle.model.specs.declared.Point.{Point}
@@ -17,9 +14,10 @@ use Rattle.model.specs.declared.Source.the-variants.{Copied}
 use Rattle.model.specs.Coordinates.{at, coord, between, index, offset, place}
 use Rattle.model.specs.Dots.{Dot, dot}
 use Rattle.model.specs.Copies.{copyDots}
-use Rattle.coordinates.proofs.SignedLaws.{coord-low, coord-high}
-use Rattle.model.proofs.Decisions.{split, cond-false}
-use Rattle.coordinates.specs.Offsets.{indexIn}
+use Rattle.model.proofs.Decisions.{cond-false}
+use Rattle.coordinates.specs.Offsets.{indexIn, unbiased, Between}
+use Rattle.coordinates.specs.declared.Edges.{Edges}
+use Rattle.coordinates.proofs.EdgeLaws.{within-true, within-early, within-late, unbiased-on, between-holds}
 use Rattle.coordinates.specs.declared.Index.the-variants.{At, Outside}
 use Rattle.canvas.specs.declared.Target.{Target}
 use Rattle.canvas.specs.Canvas.{Canvas, painted, paintedAll}
@@ -27,72 +25,55 @@ use Rattle.canvas.proofs.CanvasLaws.{paintedAll-none, paintedAll-next, paintedA
 use Rattle.canvas.proofs.TargetLaws.{painted-outside-x, painted-outside-y}
 use Rattle.fault_copies.proofs.BlockLaws.{plainRectangle}
 use Rattle.draw_copies.specs.Steps.{steps}
-use Rattle.draw_copies.specs.declared.Span.{Span}
+use Rattle.draw_copies.specs.declared.Extent.{Extent}
 use Rattle.draw_copies.proofs.StepLaws.{steps-are, steps-agree, steps-idle, steps-crop}
 use Rattle.draw_copies.proofs.MoveLaws.{paintedRow, paintedPatch}
 use Rattle.draw_copies.specs.Transfers.{Cropped, patchOf, paintedAt}
 
--- ## Lifted coordinates
+-- ## From edges to an extent
 
--- 32768 more than the coordinate of a pattern
-abbrev pub lifted : ℕ → ℕ
-lifted p = (p + 32768) % 65536
+-- the coordinate of pattern p is kept as b
+module _ (lo hi p n b : ℕ) (e : Edges) (at : unbiased b ≡ coord p +ℤ pos 0) (edges : Between lo hi (unbiased b) false n e) where
+  kept : coord p ≡ unbiased b
+  kept = sym (at ∙ +ℤ-idr (coord p))
 
-module _ (p k : ℕ) (h : p < 65536) where
-  coord-on : (n : ℕ) → lifted p + k ≡ n + 32768 → coord p +ℤ pos k ≡ pos n
-  coord-on n e = split (ltb p 32768)
-      (λ f. let l = ltb-true p 32768 f in let q : p + k ≡ n = omega arith in ap (λ (z : ℤ). z +ℤ pos k) (coord-low p l) ∙ ap pos q)
-      (λ f.
-      let l = ltb-false p 32768 f in
-      let q : k - suc (65535 - p) ≡ n = omega arith in
-      ap (λ (z : ℤ). z +ℤ pos k) (coord-high p l) ∙ rw (le-ltb k (suc (65535 - p)) (omega arith)) (ap pos q))
+  step : (i : ℕ) → coord p +ℤ pos i ≡ unbiased (b + i)
+  step i = ap (λ (z : ℤ). z +ℤ pos i) kept ∙ unbiased-on b i
 
-  -- a negative coordinate lies in no clip
-  coord-below : (lo hi : ℕ) → lifted p + k < 32768 → between lo hi (coord p +ℤ pos k) ≡ false
-  coord-below lo hi l =
-      ap (λ (z : ℤ). between lo hi (z +ℤ pos k)) (coord-high p (omega arith)) ∙ rw (lt-ltb k (suc (65535 - p)) (omega arith))
+  exact : (i : ℕ) → i < n → between lo hi (coord p +ℤ pos i) ≡ (leb (e .first) i && ltb i (e .second))
+  exact i l = ap (λ (z : ℤ). between lo hi (z +ℤ pos i)) kept ∙ edges .exactly i l
 
--- ## The span of those in the clip
+  -- what lies between the edges lies from lo to hi
+  shown : (i : ℕ) → e .first ≤ i → i < e .second → (lo + 65536 ≤ b + i) × (b + i ≤ hi + 65536)
+  shown i l k = between-holds lo hi (b + i)
+      (ap (between lo hi) (sym (step i)) ∙ exact i (omega (arith, edges .last)) ∙ within-true (e .first) i (e .second) l k)
 
-module _ (lo hi p n : ℕ) (h : p < 65536) (g : hi < 65536) where
-  outside : (i : ℕ) → (lifted p + i < lo + 32768) ⊎ (hi + 32768 < lifted p + i) → between lo hi (coord p +ℤ pos i) ≡ false
-  outside i o =
-      elim (decLt (lifted p + i) 32768) [
-        | yes l ↦ coord-below p i h lo hi l
-        | no l ↦ ap (between lo hi) (coord-on p i h at (omega arith)) ∙ side o (omega arith)
-      ]
+  pub first-high : e .first < e .second → 65536 ≤ b + e .first
+  first-high l = omega (arith, shown (e .first) (omega arith) l)
+
+  pub cropped-none : e .second ≤ e .first → Cropped lo hi (coord p) n (record { skip = e .first; count = 0; at = 0 })
+  cropped-none l = record {
+    most = omega (arith, edges .ordered, edges .last);
+    before = λ i k. exact i (omega (arith, edges .ordered, edges .last)) ∙ within-early (e .first) i (e .second) k;
+    behind = λ i k m. exact i m ∙ within-late (e .first) i (e .second) (omega arith);
+    is = λ i k. absurd (omega arith);
+    inside = λ i k. absurd (omega arith);
+    small = omega arith;
+  }
+
+  pub cropped-some : hi < 65536 → e .first < e .second
+      → Cropped lo hi (coord p) n (record { skip = e .first; count = e .second - e .first; at = b + e .first - 65536 })
+  cropped-some h l = record {
+    most = omega (arith, edges .last);
+    before = λ i k. exact i (omega (arith, edges .last)) ∙ within-early (e .first) i (e .second) k;
+    behind = λ i k m. exact i m ∙ within-late (e .first) i (e .second) (omega arith);
+    is = λ i k. step (e .first + i) ∙ rw (le-ltb (b + (e .first + i)) 65536 (omega (arith, first-high l))) (ap pos (along i));
+    inside = λ i k. let s = shown (e .first + i) (omega arith) (omega arith) in (omega (arith, s), omega (arith, s, first-high l));
+    small = omega (arith, first-high l, shown (e .second - 1) (omega arith) (omega arith));
+  }
     where
-      at : ℕ
-      at = lifted p + i - 32768
-
-      side : (lifted p + i < lo + 32768) ⊎ (hi + 32768 < lifted p + i) → 32768 ≤ lifted p + i → (leb lo at && leb at hi) ≡ false
-      side (inl a) l = rw (lt-leb lo at (omega arith))
-      side (inr a) l = rw (lt-leb at hi (omega arith)) (and-false (leb lo at))
-
-  module _ (first end : ℕ) (f : first ≡ max (lifted p) (lo + 32768)) (e : end ≡ min (lifted p + n) (hi + 32769)) where
-    pub cropped-none : end ≤ first → Cropped lo hi (coord p) n (record { skip = 0; count = 0; at = 0 })
-    cropped-none l = record {
-      most = omega arith;
-      before = λ i k. absurd (omega arith);
-      behind = λ i k m. outside i (either i m (decLt (lifted p + i) (lo + 32768)));
-      is = λ i k. absurd (omega arith);
-      inside = λ i k. absurd (omega arith);
-      small = omega arith;
-    }
-      where
-        either : (i : ℕ) → i < n → Dec (lifted p + i < lo + 32768) → (lifted p + i < lo + 32768) ⊎ (hi + 32768 < lifted p + i)
-        either i m (yes a) = inl a
-        either i m (no a) = inr (omega arith)
-
-    pub cropped-some : first < end → Cropped lo hi (coord p) n (record { skip = first - lifted p; count = end - first; at = first - 32768 })
-    cropped-some l = record {
-      most = omega arith;
-      before = λ i k. outside i (inl (omega arith));
-      behind = λ i k m. outside i (inr (omega arith));
-      is = λ i k. coord-on p (first - lifted p + i) h (first - 32768 + i) (omega arith);
-      inside = λ i k. (omega arith, omega arith);
-      small = omega arith;
-    }
+      along : (i : ℕ) → b + (e .first + i) - 65536 ≡ b + e .first - 65536 + i
+      along i = omega (arith, first-high l)
 
 -- ## A copy's dots as numbered steps
 
@@ -110,7 +91,7 @@ outside-index : (lo hi : ℕ) (z : ℤ) → between lo hi z ≡ false → indexI
 unfolding indexIn
 outside-index lo hi z e = cond-false (At (index z)) Outside e
 
-module _ (t : Target) (see : ℕ → ℕ → ℕ) (from : Point) (b : Block) (across down : Span)
+module _ (t : Target) (see : ℕ → ℕ → ℕ) (from : Point) (b : Block) (across down : Extent)
     (columns : Cropped (t .clip .xmin) (t .clip .xmax) (coord (from .x)) (b .dx + 1) across)
     (rows : Cropped (t .clip .ymin) (t .clip .ymax) (coord (from .y)) (b .dy + 1) down) where
   -- column i and row j of the copy

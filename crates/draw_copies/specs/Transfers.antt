@@ -22,14 +22,14 @@ use Rattle.canvas.specs.declared.Target.{Target}
 use Rattle.canvas.specs.declared.Heading.{Heading}
 use Rattle.fault_copies.specs.Sharing.{Unshared}
 use Rattle.draw_copies.specs.Steps.{steps, reversedIf}
-use Rattle.draw_copies.specs.declared.Span.{Span}
+use Rattle.draw_copies.specs.declared.Extent.{Extent}
 use Rattle.draw_copies.specs.declared.Patch.{Patch}
 use Rattle.draw_copies.specs.declared.Transfer.{Transfer}
 
 -- ## Cropped to the clip
 
--- of n columns or rows, the first at z, the span's are those from lo to hi
-pub record Cropped (lo hi : ℕ) (z : ℤ) (n : ℕ) (s : Span) : Type 0 where
+-- of n columns or rows, the first at z, the extent's are those from lo to hi
+pub record Cropped (lo hi : ℕ) (z : ℤ) (n : ℕ) (s : Extent) : Type 0 where
   pub most : s .skip + s .count ≤ n
   pub before : (i : ℕ) → i < s .skip → between lo hi (z +ℤ pos i) ≡ false
   pub behind : (i : ℕ) → s .skip + s .count ≤ i → i < n → between lo hi (z +ℤ pos i) ≡ false
@@ -38,7 +38,7 @@ pub record Cropped (lo hi : ℕ) (z : ℤ) (n : ℕ) (s : Span) : Type 0 where
   pub small : s .at + s .count ≤ 65536
 
 -- the patch of a block's visible columns and rows
-abbrev pub patchOf : Block → Span → Span → Patch
+abbrev pub patchOf : Block → Extent → Extent → Patch
 patchOf b across down =
     record {
       sx = b .x + across .skip;
@@ -51,8 +51,8 @@ patchOf b across down =
 
 -- the patch of a block that is copied to a position
 pub record Patched (clip : Clip) (from : Point) (b : Block) (p : Patch) : Type 0 where
-  pub across : Span
-  pub down : Span
+  pub across : Extent
+  pub down : Extent
   pub columns : Cropped (clip .xmin) (clip .xmax) (coord (from .x)) (b .dx + 1) across
   pub rows : Cropped (clip .ymin) (clip .ymax) (coord (from .y)) (b .dy + 1) down
   pub is : p ≡ patchOf b across down

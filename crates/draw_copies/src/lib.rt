@@ -25,7 +25,7 @@ use model::Source;
 
 // Of numbered columns or rows those that lie in the clip: the first of them, how many, and where the first
 // lies.
-pub struct Span {
+pub struct Extent {
     pub skip: usize,
     pub count: usize,
     pub at: usize,
@@ -49,26 +49,25 @@ pub struct Transfer {
     pub order: Heading,
 }
 
-// Which of n columns or rows, the first at a coordinate, lie from lo to hi. What is compared is 32768 more
-// than the coordinates.
-fn crop(at: u16, n: usize, lo: u16, hi: u16) -> Span
+// Which of n columns or rows, the first at a coordinate, lie from lo to hi. The edges are counted from a number
+// that is 65,536 more than the coordinate.
+fn crop(at: u16, n: usize, lo: u16, hi: u16) -> Extent
     requires { ⌜ n ≤ 65536 ⌝ }
     ensures { λ r. ⌜ Cropped lo hi (coord at) n r ⌝ }
 {
-    let from = ((at as usize) + 32768) % 65536;
-    let first = words::larger(from, (lo as usize) + 32768);
-    let end = words::smaller(from + n, (hi as usize) + 32769);
-    if end <= first {
-        return Span {
-            skip: 0,
-            count: 0,
-            at: 0,
+    let from = coordinates::biased(at, false, 0);
+    let e = coordinates::edges_between(from, false, n, lo, hi);
+    if e.first < e.second {
+        return Extent {
+            skip: e.first,
+            count: e.second - e.first,
+            at: from + e.first - 65536,
         };
     }
-    Span {
-        skip: first - from,
-        count: end - first,
-        at: first - 32768,
+    Extent {
+        skip: e.first,
+        count: 0,
+        at: 0,
     }
 }
 

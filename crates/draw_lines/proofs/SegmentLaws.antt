@@ -2,27 +2,30 @@
 use mathlib.Core.Path.{_≡_, sym, ap₂, _∙_}
 use mathlib.Core.Bool.{true, false, cond}
 use Prim.Native.Nat.{ℕ, zero, suc, _+_, _*_, _≤_, _<_, max}
-use native.Mathlib.Nat.{div-zero}
+use native.Mathlib.Nat.{div-zero, zero-add}
 use native.Mathlib.Numerals.{add-one}
 use native.Mathlib.Omega.{arith}
 use borrow.Author.Tests.{le-leb, lt-leb}
 use lib.Arith.{digits-div}
-use lib.IntN.{ℤ, pos, natAbs, +ℤ-idr}
+use lib.IntN.{ℤ, pos, natAbs, _+ℤ_, +ℤ-idr}
 use Rattle.model.specs.Ranges.{listed}
-use Rattle.model.specs.Coordinates.{coord, at, place}
+use Rattle.model.specs.Coordinates.{coord, negative, at, offset, place}
 use Rattle.model.specs.declared.Point.{Point}
 use Rattle.model.specs.declared.Pen.{Pen}
 use Rattle.model.specs.declared.Source.{Source}
 use Rattle.model.specs.Pixels.{patternSource}
 use Rattle.model.specs.Dots.{dot}
-use Rattle.model.specs.Lines.{minorAt, major, lineDots, pointAt}
+use Rattle.model.specs.Lines.{minorAt, major, minor, offsetX, offsetY, lineDots, pointAt}
+use Rattle.coordinates.specs.Offsets.{unbiased}
 use Rattle.coordinates.proofs.SignedLaws.{signAs-directed}
 use Rattle.canvas.specs.declared.Course.{Course}
 use Rattle.canvas.specs.declared.Offset.{Offset}
 use Rattle.canvas.specs.declared.Target.{Target}
 use Rattle.canvas.specs.Canvas.{Canvas, painted, paintedAll, Painted}
 use Rattle.canvas.specs.Targets.{placeOn}
-use Rattle.draw_lines.specs.Segments.{longestLine, AxesOf, levelAxes, traceAt, traceDot}
+use Rattle.spans.specs.declared.Span.{Span}
+use Rattle.spans.specs.Spans.{spanDot, spanDots}
+use Rattle.draw_lines.specs.Segments.{longestLine, AxesOf, traceAt, traceDot}
 use Rattle.canvas.specs.Targets.{courseOf}
 use Rattle.draw_lines.specs.declared.segments.Axes.{Axes}
 use Rattle.draw_lines.specs.declared.slopes.Slope.{Slope}
@@ -78,8 +81,25 @@ traceDot-drawn pen course axes i e s = ap₂ (λ (o : Offset) (q : Source). dot 
 
 -- ## A horizontal line
 
-pub traceAt-level : (n i : ℕ) → _≡_ {A = Offset} (record { x = i; y = 0 }) (traceAt (levelAxes n) i)
-traceAt-level n i = rw (← minorAt-rest n 0 i 0 n (omega arith) (omega arith) (omega arith))
+module _ (len : ℤ) where
+  level-offset : (i : ℕ) → minorAt (major len (pos 0)) (minor len (pos 0)) i ≡ 0
+  level-offset i =
+      let e : minor len (pos 0) ≡ 0 = omega arith in
+      rw e (sym (minorAt-rest (major len (pos 0)) 0 i 0 (major len (pos 0)) (omega arith) (omega arith) (omega arith)))
+
+  -- a span from a position in the line's direction, the pattern begun with it, has the line's dots
+  module _ (pen : Pen) (from : Point) (s : Span) (ex : unbiased (s .x) ≡ coord (from .x) +ℤ pos 0) (ey : unbiased (s .y) ≡ coord (from .y) +ℤ pos 0)
+      (el : s .left ≡ negative len) (ec : s .count ≡ natAbs len + 1) (ei : s .index ≡ 0) where
+    level-dot : (i : ℕ) → spanDot pen s i ≡ dot (offset (place from) (offsetX len (pos 0) i) (offsetY len (pos 0) i)) (patternSource pen i)
+    unfolding spanDot
+    level-dot i =
+        rw (le-leb 0 (natAbs len) (omega arith), level-offset i, signAs-directed len i, el, ei, zero-add i, ex, ey, +ℤ-idr (coord (from .x)))
+
+    pub level-dots : spanDots pen s ≡ lineDots pen (place from) len (pos 0)
+    unfolding lineDots spanDots
+    level-dots =
+        let e : s .count ≡ suc (major len (pos 0)) = omega arith in
+        λ j. listed 0 (e j) (λ i. level-dot i j)
 
 -- ## POINT
 

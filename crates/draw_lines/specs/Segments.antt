@@ -1,15 +1,19 @@
 -- A line's pixels by its course and its axes, as the code has them.
 use Prim.Native.Nat.{ℕ, _<_}
 use mathlib.Core.Path.{_≡_}
-use mathlib.Core.Bool.{true, cond}
-use lib.IntN.{ℤ}
+use mathlib.Core.Bool.{cond}
+use lib.IntN.{ℤ, pos}
+use Rattle.model.specs.Coordinates.{coord, negative, place}
 use Rattle.model.specs.declared.Pen.{Pen}
+use Rattle.model.specs.declared.Point.{Point}
 use Rattle.model.specs.Pixels.{patternSource}
 use Rattle.model.specs.Dots.{Dot, dot}
-use Rattle.model.specs.Lines.{major, minor, flat, minorAt}
+use Rattle.model.specs.Lines.{major, minor, flat, minorAt, lineDots}
 use Rattle.canvas.specs.declared.Course.{Course}
 use Rattle.canvas.specs.declared.Offset.{Offset}
 use Rattle.canvas.specs.Targets.{placeOn}
+use Rattle.spans.specs.declared.Span.{Span}
+use Rattle.spans.specs.Spans.{Bounded, spanDots}
 use Rattle.draw_lines.specs.declared.segments.Axes.{Axes}
 
 -- the most pixels that a line has: an offset's magnitude is at most 32,768
@@ -23,10 +27,6 @@ pub record AxesOf (dx dy : ℤ) (a : Axes) : Type 0 where
   pub smaller : a .smaller ≡ minor dx dy
   pub small : a .larger < longestLine
 
--- the axes of a horizontal line: n along x, and nothing along y
-abbrev pub levelAxes : ℕ → Axes
-levelAxes n = record { level = true; larger = n; smaller = 0 }
-
 -- where pixel i lies on the course: i along the major axis
 abbrev pub traceAt : Axes → ℕ → Offset
 traceAt a i =
@@ -38,3 +38,9 @@ traceAt a i =
 -- pixel i
 unfoldable pub traceDot : Pen → Course → Axes → ℕ → Dot
 traceDot pen course axes i = dot (placeOn course (traceAt axes i)) (patternSource pen i)
+
+-- the span of a horizontal line by `len` from a position: its numbers are small, and its dots are the line's
+pub record LevelSpan (from : Point) (len : ℕ) (s : Span) : Type 0 where
+  pub bounded : Bounded s
+  pub left : s .left ≡ negative (coord len)
+  pub dots : (pen : Pen) → spanDots pen s ≡ lineDots pen (place from) (coord len) (pos 0)

@@ -6,4 +6,5 @@ pub mod commands; // commands.rt: POINT and LINE
 pub use commands::line;
 pub use commands::point;
 pub use segments::level_line;
+pub use segments::lone_line;
 pub use segments::segment;

@@ -13,19 +13,20 @@ use Rattle.model.specs.declared.Point.{Point}
 use Rattle.model.specs.declared.Pen.{Pen}
 use Rattle.model.specs.declared.Source.{Source}
 use Rattle.model.specs.Pixels.{patternSource}
-use Rattle.model.specs.Dots.{Dot, dot}
+use Rattle.model.specs.Dots.{dot}
 use Rattle.model.specs.Lines.{patterned, rectangle}
 use Rattle.model.proofs.OutlineLaws.{once-sides}
 use Rattle.coordinates.proofs.SignedLaws.{signAs-directed}
 use Rattle.canvas.specs.declared.Course.{Course}
 use Rattle.canvas.specs.declared.Offset.{Offset}
 use Rattle.canvas.specs.Targets.{courseOf, placeOn}
-use Rattle.draw_outlines.specs.Outlines.{outlineLength, offsetBy, outlineAt}
+use Rattle.draw_outlines.specs.declared.Outline.{Outline}
+use Rattle.draw_outlines.specs.Outlines.{outlineLength, offsetBy, outlineAt, outlineDot}
 
 -- ## Lists by numbers
 
 -- n of one list and then the rest, where they are the elements of another from s on
-listed-part : {A : Type 0} (n m s i : ℕ) (f g : ℕ → A) (rest : List A) → ((k : ℕ) → k < n → f (i + k) ≡ g (s + k)) → rest ≡ listed (s + n) m g
+pub listed-part : {A : Type 0} (n m s i : ℕ) (f g : ℕ → A) (rest : List A) → ((k : ℕ) → k < n → f (i + k) ≡ g (s + k)) → rest ≡ listed (s + n) m g
     → listed i n f ++ rest ≡ listed s (n + m) g
 unfolding listed
 listed-part zero m s i f g rest h e =
@@ -87,13 +88,13 @@ sides-length (suc a) (suc b) = rw (eqb·suc-zero a, eqb·suc-zero b) (omega arit
 
 -- which offset pixel i has, k being its number on its side
 module _ (a b i k : ℕ) where
-  side1 : i ≡ k → k < suc a → offsetBy k 0 ≡ outlineAt a b i
+  pub side1 : i ≡ k → k < suc a → offsetBy k 0 ≡ outlineAt a b i
   side1 e h = rw (e, le-leb k a (omega arith))
 
   side2 : i ≡ suc a + k → k < b → offsetBy a (1 + k) ≡ outlineAt a b i
   side2 e h = rw (lt-leb i a (omega arith), le-leb i (a + b) (omega arith)) (ap (offsetBy a) (omega arith))
 
-  side3 : i ≡ suc a + b + k → k < a → offsetBy (a - (1 + k)) b ≡ outlineAt a b i
+  pub side3 : i ≡ suc a + b + k → k < a → offsetBy (a - (1 + k)) b ≡ outlineAt a b i
   side3 e h =
       rw (lt-leb i a (omega arith), lt-leb i (a + b) (omega arith), le-leb i (a + b + a) (omega arith)) (ap (λ (x : ℕ). offsetBy x b) (omega arith))
 
@@ -130,24 +131,20 @@ outline-places c a b =
 
 -- ## RECT
 
--- pixel i of the outline
-unfoldable pub outlineDot : Pen → Course → ℕ → ℕ → ℕ → Dot
-outlineDot pen course a b i = dot (placeOn course (outlineAt a b i)) (patternSource pen i)
-
 -- a dot drawn where pixel i lies
-pub outlineDot-drawn : (pen : Pen) (course : Course) (a b i : ℕ) {o : Offset} {source : Source} → o ≡ outlineAt a b i → source ≡ patternSource pen i
-    → dot (placeOn course o) source ≡ outlineDot pen course a b i
+pub outlineDot-drawn : (pen : Pen) (o : Outline) (i : ℕ) {p : Offset} {source : Source} → p ≡ outlineAt (o .a) (o .b) i → source ≡ patternSource pen i
+    → dot (placeOn (o .course) p) source ≡ outlineDot pen o i
 unfolding outlineDot
-outlineDot-drawn pen course a b i e s = ap₂ (λ (o : Offset) (q : Source). dot (placeOn course o) q) e s
+outlineDot-drawn pen o i e s = ap₂ (λ (p : Offset) (q : Source). dot (placeOn (o .course) p) q) e s
 
 -- RECT's dots by their numbers
-pub rectangle-dots : (pen : Pen) (from : Point) (dx dy : ℤ) {course : Course} {a b n : ℕ}
-    → course ≡ courseOf from dx dy → a ≡ natAbs dx → b ≡ natAbs dy → n ≡ outlineLength a b
-    → rectangle pen from dx dy .dots ≡ listed 0 n (outlineDot pen course a b)
+pub rectangle-dots : (pen : Pen) (from : Point) (dx dy : ℤ) {course : Course} {a b : ℕ}
+    → course ≡ courseOf from dx dy → a ≡ natAbs dx → b ≡ natAbs dy
+    → rectangle pen from dx dy .dots ≡ listed 0 (outlineLength a b) (outlineDot pen (record { course = course; a = a; b = b }))
 unfolding rectangle outlineDot back down
-rectangle-dots pen from dx dy {a = a} {b = b} {n = n} e ea eb en =
+rectangle-dots pen from dx dy {a = a} {b = b} e ea eb =
     ap (patterned pen 0)
     (once-sides (place from) dx dy ∙ (simp (ea, eb, signAs-directed dx, signAs-directed dy, listed-none))
-    ∙ outline-places (courseOf from dx dy) a b ∙ ap (λ (n : ℕ). listed 0 n (λ i. placeOn (courseOf from dx dy) (outlineAt a b i))) (sym en))
-    ∙ patterned-listed pen n 0 (λ i. placeOn (courseOf from dx dy) (outlineAt a b i))
-    ∙ ap (λ (c : Course). listed 0 n (outlineDot pen c a b)) (sym e)
+    ∙ outline-places (courseOf from dx dy) a b)
+    ∙ patterned-listed pen (outlineLength a b) 0 (λ i. placeOn (courseOf from dx dy) (outlineAt a b i))
+    ∙ ap (λ (c : Course). listed 0 (outlineLength a b) (outlineDot pen (record { course = c; a = a; b = b }))) (sym e)

@@ -1,8 +1,26 @@
 -- RECT's outline by the numbers of its pixels: how many there are, and where each lies.
-use Prim.Native.Nat.{ℕ, _+_, _-_}
+use mathlib.Core.Path.{_≡_}
 use mathlib.Core.Bool.{cond, _||_}
+use Prim.Native.Nat.{ℕ, _+_, _-_, _≤_}
 use lib.Dec.{leb, eqb}
+use Rattle.model.specs.Ranges.{listed}
+use Rattle.model.specs.declared.Pen.{Pen}
+use Rattle.model.specs.Pixels.{patternSource}
+use Rattle.model.specs.Dots.{Dot, dot}
 use Rattle.canvas.specs.declared.Offset.{Offset}
+use Rattle.canvas.specs.Targets.{placeOn}
+use Rattle.spans.specs.declared.Span.{Span}
+use Rattle.spans.specs.Spans.{Bounded, spanDots}
+use Rattle.draw_outlines.specs.declared.Outline.{Outline}
+
+-- the sides are magnitudes of 16-bit offsets
+pub record Small (o : Outline) : Type 0 where
+  pub a : o .a ≤ 32768
+  pub b : o .b ≤ 32768
+
+-- no outline has more pixels
+abbrev pub longestOutline : ℕ
+longestOutline = 131073
 
 -- how many pixels the outline has, by its sides a = |dx| and b = |dy|
 abbrev pub outlineLength : ℕ → ℕ → ℕ
@@ -18,3 +36,12 @@ outlineAt a b i =
     (cond (leb i (a + b)) (offsetBy a (i - a))
     (cond (leb i (a + b + a)) (offsetBy (a + b + a - i) b)
     (offsetBy 0 (a + b + a + b - i))))
+
+-- pixel i of the outline
+unfoldable pub outlineDot : Pen → Outline → ℕ → Dot
+outlineDot pen o i = dot (placeOn (o .course) (outlineAt (o .a) (o .b) i)) (patternSource pen i)
+
+-- a span is the part of the outline that has n pixels from pixel i on
+pub record SideOf (o : Outline) (i n : ℕ) (s : Span) : Type 0 where
+  pub bounded : Bounded s
+  pub dots : (pen : Pen) → spanDots pen s ≡ listed i n (outlineDot pen o)

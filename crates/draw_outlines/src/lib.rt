@@ -1,16 +1,31 @@
 // RECT: the outline of a rectangle, each pixel once, one pattern index along all four sides.
 ghost use mathlib.Core.Path.{_≡_};
-ghost use Prim.Native.Nat.{_+_, _≤_, _<_};
+ghost use Prim.Native.Nat.{_+_, _-_, _≤_, _<_};
 ghost use lib.ListN.{length};
+ghost use Rattle.model.specs.Ranges.{listed};
 ghost use Rattle.model.specs.Coordinates.{coord};
 ghost use Rattle.model.specs.Lines.{rectangle};
-ghost use Rattle.canvas.specs.Canvas.{canvas, Drew};
+ghost use Rattle.canvas.specs.Canvas.{canvas, countEnd, Drew, Painted};
 ghost use Rattle.canvas.specs.Targets.{Ready};
-ghost use Rattle.draw_outlines.specs.Outlines.{outlineLength, outlineAt};
+ghost use Rattle.draw_outlines.specs.Outlines.{longestOutline, outlineAt, outlineDot, outlineLength};
+ghost use Rattle.draw_outlines.specs.Outlines.{SideOf, Small};
+use canvas::Course;
 use canvas::Drawn;
 use canvas::Offset;
 use canvas::Target;
 use model::Point;
+use spans::Span;
+
+// The length from which an outline's level sides are drawn as spans: shorter ones are drawn sooner dot by dot
+// than the strips of both are worked out.
+const SHORTEST_SIDE: usize = 32;
+
+// The outline of a rectangle: its course, and its sides a = |dx| and b = |dy|.
+pub struct Outline {
+    pub course: Course,
+    pub a: usize,
+    pub b: usize,
+}
 
 // How many pixels the outline has, by its sides a = |dx| and b = |dy|.
 fn outline_length(a: usize, b: usize) -> usize
@@ -49,6 +64,109 @@ fn outline_offset(a: usize, b: usize, i: usize) -> Offset
     }
 }
 
+// Pixels of the outline dot by dot, n of them from the first: hits and how many of them are visible.
+fn dotted(
+    screen: &mut [u8],
+    store: &mut [u8],
+    t: Target,
+    o: Outline,
+    first: usize,
+    n: usize,
+    hits: usize,
+) -> usize
+    requires { ⌜ Ready t (length (now screen)) (length (now store)) × Small o
+        × (first + n ≤ o .a + o .b + o .a + o .b + 1) × (hits + n < countEnd) ⌝ }
+    ensures { λ r. ⌜ Painted t (listed first n (outlineDot (t .pen) o))
+        (canvas (now (screen .entry)) (now (store .entry)) hits) (canvas (now (screen .exit)) (now (store .exit)) r) ⌝ }
+{
+    let mut seen = hits;
+    let mut k = 0;
+    while k < n {
+        let i = first + k;
+        let offset = outline_offset(o.a, o.b, i);
+        let source = canvas::pattern_source(t.pen, i);
+        seen = canvas::draw_dot(screen, store, t, o.course, offset, source, seen);
+        k += 1;
+    }
+    seen
+}
+
+// The outline's first side, along x, as a span.
+fn top_side(o: Outline) -> Span
+    requires { ⌜ Small o ⌝ }
+    ensures { λ s. ⌜ SideOf o 0 (o .a + 1) s ⌝ }
+{
+    let from = o.course.from;
+    let x = coordinates::biased(from.x, false, 0);
+    let y = coordinates::biased(from.y, false, 0);
+    Span {
+        x,
+        y,
+        left: o.course.heading.left,
+        count: o.a + 1,
+        index: 0,
+    }
+}
+
+// The outline's third side, back along x, as a span: the corner before it is the second side's.
+fn bottom_side(o: Outline) -> Span
+    requires { ⌜ Small o × (0 < o .a) ⌝ }
+    ensures { λ s. ⌜ SideOf o (o .a + o .b + 1) (o .a) s ⌝ }
+{
+    let from = o.course.from;
+    let heading = o.course.heading;
+    let x = coordinates::biased(from.x, heading.left, o.a - 1);
+    let y = coordinates::biased(from.y, heading.up, o.b);
+    let index = o.a + o.b + 1;
+    Span {
+        x,
+        y,
+        left: !heading.left,
+        count: o.a,
+        index,
+    }
+}
+
+// The first two sides, to the corner across: how many of their pixels are visible.
+fn way_out(screen: &mut [u8], store: &mut [u8], t: Target, o: Outline) -> usize
+    requires { ⌜ Ready t (length (now screen)) (length (now store)) × Small o ⌝ }
+    ensures { λ r. ⌜ Painted t (listed 0 (o .a + o .b + 1) (outlineDot (t .pen) o))
+        (canvas (now (screen .entry)) (now (store .entry)) 0) (canvas (now (screen .exit)) (now (store .exit)) r) ⌝ }
+{
+    let side = top_side(o);
+    let hits = spans::draw_alone(screen, store, t, side, 0);
+    dotted(screen, store, t, o, o.a + 1, o.b, hits)
+}
+
+// The other two sides, without the corner where the outline began: hits and how many of their pixels are visible.
+fn way_back(screen: &mut [u8], store: &mut [u8], t: Target, o: Outline, hits: usize) -> usize
+    requires { ⌜ Ready t (length (now screen)) (length (now store)) × Small o × (0 < o .a) × (0 < o .b)
+        × (hits + longestOutline < countEnd) ⌝ }
+    ensures { λ r. ⌜ Painted t (listed (o .a + o .b + 1) (o .a + o .b - 1) (outlineDot (t .pen) o))
+        (canvas (now (screen .entry)) (now (store .entry)) hits) (canvas (now (screen .exit)) (now (store .exit)) r) ⌝ }
+{
+    let side = bottom_side(o);
+    let seen = spans::draw_alone(screen, store, t, side, hits);
+    dotted(screen, store, t, o, o.a + o.b + 1 + o.a, o.b - 1, seen)
+}
+
+// The whole outline, its level sides by spans if they are long: how many of its pixels are visible.
+fn draw_outline(screen: &mut [u8], store: &mut [u8], t: Target, o: Outline) -> usize
+    requires { ⌜ Ready t (length (now screen)) (length (now store)) × Small o ⌝ }
+    ensures { λ r. ⌜ Painted t (listed 0 (outlineLength (o .a) (o .b)) (outlineDot (t .pen) o))
+        (canvas (now (screen .entry)) (now (store .entry)) 0) (canvas (now (screen .exit)) (now (store .exit)) r) ⌝ }
+{
+    if o.a < SHORTEST_SIDE {
+        let n = outline_length(o.a, o.b);
+        return dotted(screen, store, t, o, 0, n, 0);
+    }
+    let hits = way_out(screen, store, t, o);
+    if o.b == 0 {
+        return hits;
+    }
+    way_back(screen, store, t, o, hits)
+}
+
 // RECT by (dx,dy): the position stays.
 pub fn rect(screen: &mut [u8], store: &mut [u8], t: Target, from: Point, dx: u16, dy: u16) -> Drawn
     requires { ⌜ Ready t (length (now screen)) (length (now store)) ⌝ }
@@ -58,15 +176,8 @@ pub fn rect(screen: &mut [u8], store: &mut [u8], t: Target, from: Point, dx: u16
     let a = coordinates::magnitude(dx);
     let b = coordinates::magnitude(dy);
     let course = canvas::course_of(from, dx, dy);
-    let n = outline_length(a, b);
-    let mut hits = 0;
-    let mut i = 0;
-    while i < n {
-        let o = outline_offset(a, b, i);
-        let source = canvas::pattern_source(t.pen, i);
-        hits = canvas::draw_dot(screen, store, t, course, o, source, hits);
-        i += 1;
-    }
+    let o = Outline { course, a, b };
+    let hits = draw_outline(screen, store, t, o);
     Drawn {
         position: from,
         trap: false,

@@ -1,7 +1,7 @@
 // Words and bits of a store, and plain choices between two numbers: leaves that know no pixel and no command.
 ghost use mathlib.Core.Path.{_≡_};
 ghost use mathlib.Core.Bool.{cond};
-ghost use Prim.Native.Nat.{_+_, _<_, max, min};
+ghost use Prim.Native.Nat.{_+_, _<_};
 ghost use lib.ListN.{length};
 ghost use Rattle.model.specs.Words.{bit, wordAt};
 
@@ -59,24 +59,4 @@ pub fn number_if(test: bool, number: u8, rest: u8) -> u8
     ensures { λ r. ⌜ r ≡ cond test number rest ⌝ }
 {
     if test { number } else { rest }
-}
-
-// The larger of two numbers.
-pub fn larger(a: usize, b: usize) -> usize
-    ensures { λ r. ⌜ r ≡ max a b ⌝ }
-{
-    if a < b {
-        return b;
-    }
-    a
-}
-
-// The smaller of two numbers.
-pub fn smaller(a: usize, b: usize) -> usize
-    ensures { λ r. ⌜ r ≡ min a b ⌝ }
-{
-    if a < b {
-        return a;
-    }
-    b
 }

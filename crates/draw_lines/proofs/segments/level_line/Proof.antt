@@ -1,55 +1,23 @@
--- `draw_lines::segments::level_line` meets its contract: by its direction, the run is the line's trace.
-use mathlib.Core.Path.{refl, ap, sym, _∙_}
-use mathlib.Core.Bool.{Bool, false}
-use native.Mathlib.Omega.{arith}
+-- `draw_lines::segments::level_line` meets its contract: its span has the line's dots.
+use mathlib.Core.Path.{ap, _∙_}
 use borrow.Author.Needs.{needs}
-use Rattle.model.specs.declared.Point.{Point}
-use Rattle.model.specs.Coordinates.{coord}
-use Rattle.canvas.specs.declared.Course.{Course}
-use Rattle.draw_lines.specs.Segments.{AxesOf, levelAxes}
-use Rattle.draw_lines.proofs.SegmentLaws.{axes-level, lineDots-trace}
+use Rattle.canvas.specs.Canvas.{canvas, paintedAll}
 use Rattle.draw_lines.proofs.segments.level_line.Statement.{statement}
 use Rattle.draw_lines.proofs.segments.level_line.Tie as tie
 
--- the course of a level line
-abbrev courseTo : Point → Bool → Course
-courseTo from left = record { from = from; heading = record { left = left; up = false } }
-
--- the entry, from the place where the direction is known
-abbrev entry : tie.After-is-negative → tie.Start
-entry p = p .before .before .before .before
-
--- a run in the line's direction is the line
-axes : (p : tie.After-is-negative) → AxesOf (coord (entry p .args .len)) (coord 0) (levelAxes (p .before .magnitude .result))
-axes p =
-    let m = p .before .magnitude .ensures in
-    axes-level (coord (entry p .args .len)) (coord 0) (m .0) refl (omega arith) (omega (arith, m .1))
+draw-span-requires : tie.Need-draw-span-requires
+draw-span-requires c κs =
+    let l = c .before .before in
+    let s = l .before .before .before .before in
+    (s .pre .0, rw (l .level-span .ensures .left) (s .pre .1), l .level-span .ensures .bounded, s .pre .2)
 
 returns : tie.Need-returns
 returns c =
-    let d = c .before .before .before .before .before .before .before in
-    let a = entry (d .before) .args in
-    let known = ap (courseTo (a .from)) (sym (d .if1 .taken) ∙ d .before .is-negative .ensures) in
-    rw (lineDots-trace (a .t .pen) (a .from) (coord (a .len)) (coord 0) known (axes (d .before))) (c .before .before .before .before .level-run .ensures)
-
-returns-2 : tie.Need-returns-2
-returns-2 c =
-    let d = c .before .before .before .before .before .before .before in
-    let a = entry (d .before) .args in
-    let known = ap (courseTo (a .from)) (sym (d .if1 .left) ∙ d .before .is-negative .ensures) in
-    rw (lineDots-trace (a .t .pen) (a .from) (coord (a .len)) (coord 0) known (axes (d .before))) (c .before .before .before .before .level-run2 .ensures)
+    let d = c .before .before .before .before in
+    let l = d .before .before .before in
+    let a = l .before .before .before .before .args in
+    d .draw-span .ensures
+    ∙ ap (λ ds. paintedAll (a .t) ds (canvas (a .screen .now) (a .store .now) (a .hits))) (l .level-span .ensures .dots (a .t .pen))
 
 pub level-line-spec : {M : Type 1} → statement M
-level-line-spec =
-    tie.close
-    (tie.spec
-    (λ c κs. search needs)
-    (λ c κs. search needs)
-    (λ c κs. let p = c .before .before .before in (entry p .pre .0, omega (arith, axes p .small), entry p .pre .1))
-    (λ c. search needs)
-    (λ c. search needs)
-    returns
-    (λ c κs. let p = c .before .before .before in (entry p .pre .0, omega (arith, axes p .small), entry p .pre .1))
-    (λ c. search needs)
-    (λ c. search needs)
-    returns-2)
+level-line-spec = tie.close (tie.spec (λ c κs. search needs) draw-span-requires (λ c. search needs) (λ c. search needs) returns)

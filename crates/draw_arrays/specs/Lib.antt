@@ -1,0 +1,2 @@
+-- What the contracts of `draw_arrays` cite beside model's definitions.
+pub mod Arrays

@@ -1,0 +1,135 @@
+-- Parts of an outline: one after the other they are drawn as one, and its level sides are spans.
+use mathlib.Core.Path.{_≡_, refl, sym, ap, _∙_}
+use mathlib.Core.Bool.{Bool, true, false, cond, not, _||_}
+use mathlib.Core.List.{[], append-nil}
+use Prim.Native.Nat.{ℕ, _+_, _-_, _≤_, _<_}
+use native.Mathlib.Nat.{zero-add}
+use native.Mathlib.Omega.{arith}
+use borrow.Author.Tests.{eq-eqb, ne-eqb}
+use lib.Dec.{eqb}
+use lib.IntN.{ℤ, pos, negℤ, _+ℤ_, _-ℤ_, +ℤ-assoc, +ℤ-idr, +ℤ-negℤ-cancel, -ℤ-+ℤ-cancel, negℤ-+ℤ}
+use Rattle.model.specs.Ranges.{listed}
+use Rattle.model.specs.Coordinates.{coord, at}
+use Rattle.model.specs.declared.Pen.{Pen}
+use Rattle.model.specs.Pixels.{patternSource}
+use Rattle.model.specs.Dots.{Dot, dot}
+use Rattle.coordinates.specs.Offsets.{directed, unbiased}
+use Rattle.canvas.specs.declared.Target.{Target}
+use Rattle.canvas.specs.Canvas.{Canvas, painted, paintedAll, Painted}
+use Rattle.canvas.specs.Targets.{placeOn}
+use Rattle.canvas.proofs.CanvasLaws.{paintedAll-append}
+use Rattle.spans.specs.declared.Span.{Span}
+use Rattle.spans.specs.Spans.{Bounded, spanDot, spanDots}
+use Rattle.draw_outlines.specs.declared.Outline.{Outline}
+use Rattle.draw_outlines.specs.Outlines.{Small, SideOf, outlineDot, outlineLength}
+use Rattle.draw_outlines.proofs.RectLaws.{listed-part, side1, side3}
+
+-- ## One part after the other
+
+module _ (t : Target) (i n : ℕ) (f : ℕ → Dot) (c : Canvas) {c′ : Canvas} (p : Painted t (listed i n f) c c′) where
+  -- all of w
+  pub painted-whole : (w : ℕ) → n ≡ w → Painted t (listed i w f) c c′
+  painted-whole w e = p ∙ ap (λ (m : ℕ). paintedAll t (listed i m f) c) e
+
+  -- m more from j on make w
+  pub painted-parts : (m j w : ℕ) → i + n ≡ j → n + m ≡ w → {c″ : Canvas} → Painted t (listed j m f) c′ c″ → Painted t (listed i w f) c c″
+  painted-parts m j w ej ew q =
+      q ∙ ap (paintedAll t (listed j m f)) p
+      ∙ sym (paintedAll-append t (listed i n f) (listed j m f) c)
+      ∙ ap (λ ds. paintedAll t ds c) (listed-part n m i i f f _ (λ k l. refl) (ap (λ (k : ℕ). listed k m f) (sym ej)) ∙ ap (λ (k : ℕ). listed i k f) ew)
+
+  -- one dot more
+  pub painted-more : {d : Dot} → d ≡ f (i + n) → {c″ : Canvas} → c″ ≡ painted t d c′ → Painted t (listed i (n + 1) f) c c″
+  unfolding listed paintedAll
+  painted-more e q = painted-parts 1 (i + n) (n + 1) refl refl (q ∙ ap (λ d. painted t d c′) e)
+
+-- ## Steps along an axis
+
+directed-none : (z : ℤ) (back : Bool) → z +ℤ directed back 0 ≡ z
+directed-none z false = +ℤ-idr z
+directed-none z true = +ℤ-idr z
+
+-- some steps, and then no more than these the other way
+directed-return : (z : ℤ) (back : Bool) (m k : ℕ) → k ≤ m → z +ℤ directed back m +ℤ directed (not back) k ≡ z +ℤ directed back (m - k)
+directed-return z false m k h =
+    let e : m ≡ m - k + k = omega arith in
+    ap (λ (n : ℕ). z +ℤ pos n -ℤ pos k) e
+    ∙ ap (λ (w : ℤ). w -ℤ pos k) (sym (+ℤ-assoc z (pos (m - k)) (pos k)))
+    ∙ +ℤ-negℤ-cancel (z +ℤ pos (m - k)) (pos k)
+directed-return z true m k h =
+    let e : m ≡ m - k + k = omega arith in
+    ap (λ (n : ℕ). z +ℤ negℤ (pos n) +ℤ pos k) e
+    ∙ ap (λ (w : ℤ). z +ℤ w +ℤ pos k) (negℤ-+ℤ (pos (m - k)) (pos k))
+    ∙ ap (λ (w : ℤ). w +ℤ pos k) (sym (+ℤ-assoc z (negℤ (pos (m - k))) (negℤ (pos k))))
+    ∙ -ℤ-+ℤ-cancel (z +ℤ negℤ (pos (m - k))) (pos k)
+
+-- ## The level sides
+
+-- a span whose pixels are the outline's from pixel i on
+side-of : (o : Outline) (i : ℕ) (s : Span) → Bounded s → ((pen : Pen) (k : ℕ) → k < s .count → spanDot pen s k ≡ outlineDot pen o (i + k))
+    → SideOf o i (s .count) s
+unfolding spanDots listed
+side-of o i s b h = record { bounded = b; dots = same }
+  where
+    same : (pen : Pen) → listed 0 (s .count) (spanDot pen s) ≡ listed i (s .count) (outlineDot pen o)
+    same pen =
+        let e : s .count + 0 ≡ s .count = omega arith in
+        sym (append-nil _)
+        ∙ listed-part (s .count) 0 i 0 (spanDot pen s) (outlineDot pen o) [] (λ k l. rw (zero-add k) (h pen k l)) refl
+        ∙ ap (λ (m : ℕ). listed i m (outlineDot pen o)) e
+
+module _ (o : Outline) (s : Span) (h : Small o) (lx : s .x < 131072) (ly : s .y < 131072) where
+  -- where the outline starts, and its course along each axis
+  abbrev startX : ℤ
+  startX = coord (o .course .from .x)
+
+  abbrev startY : ℤ
+  startY = coord (o .course .from .y)
+
+  abbrev left : Bool
+  left = o .course .heading .left
+
+  abbrev up : Bool
+  up = o .course .heading .up
+
+  -- the first side
+  pub side-top : unbiased (s .x) ≡ startX +ℤ pos 0 → unbiased (s .y) ≡ startY +ℤ pos 0
+      → s .left ≡ left → s .count ≡ o .a + 1 → s .index ≡ 0 → SideOf o 0 (s .count) s
+  unfolding spanDot outlineDot
+  side-top ex ey el ec ei =
+      side-of o 0 s (record { x = omega arith; y = omega arith; count = omega (arith, h .a); index = omega arith })
+      (λ pen k l. rw (el, ei, ex, ey, +ℤ-idr startX, +ℤ-idr startY)
+      (ap (λ q. dot q (patternSource pen (0 + k)))
+      (ap (at (startX +ℤ directed left k)) (sym (directed-none startY up))
+      ∙ ap (placeOn (o .course)) (side1 (o .a) (o .b) (0 + k) k (zero-add k) (omega arith)))))
+
+  -- the third side
+  pub side-bottom : unbiased (s .x) ≡ startX +ℤ directed left (o .a - 1) → unbiased (s .y) ≡ startY +ℤ directed up (o .b)
+      → s .left ≡ not left → s .count ≡ o .a → s .index ≡ o .a + o .b + 1 → SideOf o (o .a + o .b + 1) (s .count) s
+  unfolding spanDot outlineDot
+  side-bottom ex ey el ec ei =
+      side-of o (o .a + o .b + 1) s (record { x = omega arith; y = omega arith; count = omega (arith, h .a); index = omega (arith, h .a, h .b) })
+      (λ pen k l.
+      let e : o .a - 1 - k ≡ o .a - (1 + k) = omega arith in
+      rw (el, ei, ex, ey)
+      (ap (λ q. dot q (patternSource pen (o .a + o .b + 1 + k)))
+      (ap (λ (z : ℤ). at z (startY +ℤ directed up (o .b)))
+      (directed-return startX left (o .a - 1) k (omega arith) ∙ ap (λ (m : ℕ). startX +ℤ directed left m) e)
+      ∙ ap (placeOn (o .course)) (side3 (o .a) (o .b) (o .a + o .b + 1 + k) k (omega arith) (omega arith)))))
+
+-- .. drawn
+pub side-painted : (t : Target) (o : Outline) (i n : ℕ) {s : Span} (c : Canvas) {c′ : Canvas} → SideOf o i n s → Painted t (spanDots (t .pen) s) c c′
+    → Painted t (listed i n (outlineDot (t .pen) o)) c c′
+side-painted t o i n c w e = e ∙ ap (λ ds. paintedAll t ds c) (w .dots (t .pen))
+
+-- ## How many pixels there are
+
+pub length-flat : (a b : ℕ) → b ≡ 0 → a + b + 1 ≡ outlineLength a b
+length-flat a b e = rw (eq-eqb b 0 e) (or-true (eqb a 0))
+  where
+    or-true : (t : Bool) → a + b + 1 ≡ cond (t || true) (a + b + 1) (a + b + a + b)
+    or-true true = refl
+    or-true false = refl
+
+pub length-whole : (a b : ℕ) → 0 < a → 0 < b → a + b + 1 + (a + b - 1) ≡ outlineLength a b
+length-whole a b h k = rw (ne-eqb a 0 (omega arith), ne-eqb b 0 (omega arith)) (omega arith)

@@ -1,0 +1,4 @@
+-- Laws of spans.
+pub mod EdgesLaws
+pub mod Examples
+pub mod DrawLaws

@@ -1,0 +1,3 @@
+-- What the contracts of `spans` cite beside model's definitions.
+pub mod Spans
+pub mod Examples

@@ -1,0 +1,123 @@
+// Patterns: sixteen bits, the first in bit 15. Rotated, reversed, counted, and spread over the bits of pixels.
+ghost use mathlib.Core.Path.{_≡_};
+ghost use Prim.Native.Nat.{_<_, _^_};
+ghost use Rattle.model.specs.Bitmaps.{Depth};
+ghost use Rattle.strips.specs.Strips.{RotatedLeft, Reversed, Spread, OverOf};
+ghost use Rattle.strips.specs.Strokes.{shown, patternOn};
+
+// A pattern rotated left by so many bits.
+pub fn rotate_left(pattern: u16, s: usize) -> u16
+    requires { ⌜ s < 16 ⌝ }
+    ensures { λ r. ⌜ RotatedLeft pattern s r ⌝ }
+{
+    ((((pattern as u32) * 65537) >> (16 - s)) % 65536) as u16
+}
+
+// A word's bits from the other end.
+pub fn reversed(x: u16) -> u16
+    ensures { λ r. ⌜ Reversed x r ⌝ }
+{
+    let mut r: u16 = 0;
+    let mut k: usize = 0;
+    while k < 16 {
+        r = (r % 32768) * 2 + (x >> k) % 2;
+        k += 1;
+    }
+    r
+}
+
+// How many bits of a byte are 1.
+fn byte_ones(x: u8) -> usize
+    ensures { λ r. ⌜ r ≡ shown (patternOn x) 8 8 ⌝ }
+{
+    let pairs = x - ((x >> 1) & 85);
+    let fours = (pairs & 51) + ((pairs >> 2) & 51);
+    ((fours + (fours >> 4)) & 15) as usize
+}
+
+// How many bits of a word are 1.
+fn ones(w: u16) -> usize
+    ensures { λ r. ⌜ r ≡ shown (patternOn w) 0 16 ⌝ }
+{
+    byte_ones((w % 256) as u8) + byte_ones((w / 256) as u8)
+}
+
+// How many of n pixels, from a pattern's bit `index` on, have a 1: whole periods of the pattern, and the rest.
+pub fn counted(pattern: u16, index: usize, n: usize) -> usize
+    requires { ⌜ (index < 16) × (n < 2 ^ 32) ⌝ }
+    ensures { λ r. ⌜ r ≡ shown (patternOn pattern) index n ⌝ }
+{
+    let rest = (rotate_left(pattern, index) as u32) >> (16 - n % 16);
+    n / 16 * ones(pattern) + ones(rest as u16)
+}
+
+// Eight bits of a pattern over pixels of 2 bits: a word.
+fn spread2(x: u64) -> u64
+    requires { ⌜ x < 256 ⌝ }
+    ensures { λ r. ⌜ Spread 2 x r ⌝ }
+{
+    let a = (x | (x << 4)) & 0x0F0F;
+    let b = (a | (a << 2)) & 0x3333;
+    let c = (b | (b << 1)) & 0x5555;
+    c * 3
+}
+
+// Eight bits of a pattern over pixels of 4 bits: two words.
+fn spread4(x: u64) -> u64
+    requires { ⌜ x < 256 ⌝ }
+    ensures { λ r. ⌜ Spread 4 x r ⌝ }
+{
+    let v = (x / 16) | ((x % 16) << 16);
+    let a = (v & 0x10001) | ((v << 3) & 0x100010);
+    let b = ((v << 6) & 0x1000100) | ((v << 9) & 0x10001000);
+    (a | b) * 15
+}
+
+// Eight bits of a pattern over pixels of 8 bits: four words.
+fn spread8(x: u64) -> u64
+    requires { ⌜ x < 256 ⌝ }
+    ensures { λ r. ⌜ Spread 8 x r ⌝ }
+{
+    let y = (x * 0x0101010101010101) & 0x0201080420108040;
+    (((y + 0x7F7F7F7F7F7F7F7F) >> 7) & 0x0101010101010101) * 255
+}
+
+// A pattern over the pixels of a strip: its first and its last eight bytes.
+pub struct Over {
+    pub low: u64,
+    pub high: u64,
+}
+
+// A pattern over the pixels of a strip, again and again.
+pub fn over_of(pattern: u16, bits: usize) -> Over
+    requires { ⌜ Depth bits ⌝ }
+    ensures { λ r. ⌜ OverOf pattern bits r ⌝ }
+{
+    let high = (pattern / 256) as u64;
+    let low = (pattern % 256) as u64;
+    if bits == 8 {
+        return Over {
+            low: spread8(high),
+            high: spread8(low),
+        };
+    }
+    if bits == 4 {
+        let four = spread4(high) + (spread4(low) << 32);
+        return Over {
+            low: four,
+            high: four,
+        };
+    }
+    if bits == 2 {
+        let two = (spread2(high) + (spread2(low) << 16)) * 0x100000001;
+        return Over {
+            low: two,
+            high: two,
+        };
+    }
+    let one = (pattern as u64) * 0x0001000100010001;
+    Over {
+        low: one,
+        high: one,
+    }
+}
