@@ -140,6 +140,8 @@ fn lists() -> Vec<List> {
     vec![
         List { name: "NOP", first: vec![], again: vec![0x0300; 32], data: vec![], budget: 4_000_000 },
         List { name: "LINE", first: vec![], again: vec![0x4F00, 10, 10, 0x5400, 900, 400, 0x4F00, 900, 20, 0x5400, 0xFE00, 300], data: vec![], budget: 20_000 },
+        List { name: "LINE, level, 31 pixels", first: vec![], again: vec![0x4F00, 20, 20, 0x5400, 30, 0], data: vec![], budget: 200_000 },
+        List { name: "RECT, 40 by 20 pixels", first: vec![], again: vec![0x4F00, 20, 20, 0x5800, 39, 19], data: vec![], budget: 60_000 },
         List { name: "RECT", first: vec![], again: vec![0x4F00, 10, 10, 0x5800, 900, 400], data: vec![], budget: 2_000 },
         List { name: "CIRCLE", first: vec![], again: circle.clone(), data: vec![], budget: 12_000 },
         List { name: "CIRCLE, half outside the clip", first: vec![0x4600, 500, 0, 1023, 511], again: circle.clone(), data: vec![], budget: 12_000 },
