@@ -85,7 +85,8 @@ fn phase_of(s: Span, e: Edges, c: usize) -> usize
     if s.left {
         return (31 - (s.index + e.second - 1) % 16 - c % 16) % 16;
     }
-    (s.index + e.first + 16 - c % 16) % 16
+    let hidden = e.first;
+    (s.index + hidden + 16 - c % 16) % 16
 }
 
 // How many of n pixels from a pattern index on are drawn.

@@ -8,7 +8,7 @@ returns : tie.Need-returns
 returns c = let d = c .before .before in (rw (d .if1 .taken), omega arith)
 
 returns-2 : tie.Need-returns-2
-returns-2 c = let d = c .before .before in (rw (d .if1 .left), omega arith)
+returns-2 c = let d = c .before in (rw (d .if1 .left), omega arith)
 
 pub phase-of-spec : {M : Type 1} → statement M
 phase-of-spec =
