@@ -1,5 +1,5 @@
-//! The pixels of lines and outlines, in the order of their pattern index.
-//! All are whole numbers that do not wrap.
+//! The pixels of lines, polylines and outlines, in the order of their pattern
+//! index. All are whole numbers that do not wrap.
 
 /// The minor offset of pixel i: "floor((2 × i × m + n) / (2 × n))". Here n is
 /// above 0.
@@ -18,6 +18,27 @@ pub fn line_pixels(x: i64, y: i64, dx: i64, dy: i64) -> impl Iterator<Item = (i6
         let minor = if n == 0 { 0 } else { minor_offset(i, m, n) };
         let (across, down) = if x_is_major { (i, minor) } else { (minor, i) };
         (x + dx.signum() * across, y + dy.signum() * down)
+    })
+}
+
+/// A segment of a POLYLINE: where it starts, and how far it goes.
+#[derive(Clone, Copy)]
+pub struct Segment {
+    pub x: i64,
+    pub y: i64,
+    pub dx: i64,
+    pub dy: i64,
+}
+
+/// "A dashed polyline now carries its pattern on through every joint, and a
+/// joint is no longer drawn by both its segments … The first pixel of each
+/// segment after the first is skipped and takes no pattern index. A segment of
+/// length 0 after the first draws nothing." (02, A.4)
+pub fn polyline_pixels(segments: Vec<Segment>) -> impl Iterator<Item = (i64, i64)> {
+    let numbered = segments.into_iter().enumerate();
+    numbered.flat_map(|(number, Segment { x, y, dx, dy })| {
+        let skipped = if number == 0 { 0 } else { 1 };
+        line_pixels(x, y, dx, dy).skip(skipped)
     })
 }
 

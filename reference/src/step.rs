@@ -4,7 +4,7 @@ use crate::bitmaps::{Bitmap, Clip};
 use crate::circles::circle_pixels;
 use crate::decode::{decode, Command, Decoded};
 use crate::faults::Scene;
-use crate::lines::{line_pixels, outline_pixels};
+use crate::lines::{line_pixels, outline_pixels, polyline_pixels, Segment};
 use crate::pixels::Pane;
 use crate::record::{Font, PaneRecord, ENDED, FAULTED};
 use crate::words::word_at;
@@ -169,14 +169,13 @@ fn draw(pane: &mut Pane, command: Command) {
             let (x, y) = pane.record.position();
             pane.draw_plain(circle_pixels(x, y, i64::from(radius)));
         }
-        // "POLYLINE draws its N pairs as LINEs, the pattern begun anew at each."
         Command::Polyline { address, count } => {
-            for [dx, dy] in array(pane, address, count) {
-                line(pane, dx, dy);
-            }
+            let pairs = array(pane, address, count);
+            polyline(pane, &pairs);
         }
         // "SCAN_LINES: each triple dx, dy, length moves by (dx,dy) and draws a
         // horizontal LINE by length; the position stays at that line's start."
+        // And it "still restarts at each run" (02, A.4).
         Command::ScanLines { address, count } => {
             for [dx, dy, length] in array(pane, address, count) {
                 pane.record.move_by(dx, dy);
@@ -214,9 +213,21 @@ fn line(pane: &mut Pane, dx: i64, dy: i64) {
     pane.record.move_by(dx, dy);
 }
 
+/// Draws a POLYLINE: each segment starts at the position that the one before it
+/// left, wrapped or not.
+fn polyline(pane: &mut Pane, pairs: &[[i64; 2]]) {
+    let mut segments = Vec::new();
+    for &[dx, dy] in pairs {
+        let (x, y) = pane.record.position();
+        segments.push(Segment { x, y, dx, dy });
+        pane.record.move_by(dx, dy);
+    }
+    pane.draw_patterned(polyline_pixels(segments));
+}
+
 /// The array of a POLYLINE or SCAN_LINES: so many groups of signed words, all
 /// read before the first pixel.
-fn array<const GROUP: usize>(pane: &Pane, address: u32, count: u16) -> Vec<[i64; GROUP]> {
+pub fn array<const GROUP: usize>(pane: &Pane, address: u32, count: u16) -> Vec<[i64; GROUP]> {
     let word = |k: usize| {
         let at = u64::from(address) + 2 * k as u64;
         i64::from(word_at(pane.store, at).unwrap_or(0) as i16)

@@ -218,6 +218,192 @@ fn pattern_bits_run_from_the_left() {
     assert_eq!(row, [1, 0, 1, 0, 0, 0, 0, 0, 0, 0, 0, 0, 0, 0, 0, 1, 1, 0]);
 }
 
+/// Where the tests of POLYLINE and SCAN_LINES put pairs and triples.
+const ARRAY: u16 = 0x200;
+
+/// Puts pairs, and draws a POLYLINE of them after other commands.
+fn draw_polyline(bench: &mut Bench, before: &[&[u16]], pairs: &[[i16; 2]]) {
+    let words: Vec<u16> = pairs.iter().flatten().map(|&word| word as u16).collect();
+    bench.put_words(u32::from(ARRAY), &words);
+    let command = [0x7400, ARRAY, 0, pairs.len() as u16];
+    bench.done(&[&before.concat(), &command]);
+}
+
+/// A pane of two bits with foreground 1 and background 2, so that a 0 is a pixel
+/// that was not drawn.
+fn paper(width: u32, height: u32) -> Bench {
+    let mut bench = Bench::whole(width, height, 2);
+    let bitmap = pane_bitmap(width as u16, height as u16, 2);
+    bench.done(&[&bitmap, &colors(0x5555, 0xAAAA)]);
+    bench
+}
+
+/// The pattern begins 1010 0101: four pixels of the first segment, then two of
+/// each other. The position ends at the far end.
+#[test]
+fn polylines_carry_the_pattern_through_joints() {
+    let mut bench = paper(6, 4);
+    draw_polyline(&mut bench, &[&[0x0600, 0xA500]], &[[3, 0], [0, 2], [-2, 1]]);
+    assert_eq!(bench.line(0), [1, 2, 1, 2, 0, 0]);
+    assert_eq!(bench.line(1), [0, 0, 0, 2, 0, 0]);
+    assert_eq!(bench.line(2), [0, 0, 0, 1, 0, 0]);
+    assert_eq!(bench.line(3), [0, 1, 2, 0, 0, 0]);
+    let look = bench.look(0).unwrap();
+    assert_eq!((look.x, look.y), (1, 3));
+}
+
+/// An upright outline whose last segment stops one pixel before the start is
+/// RECT's, whatever the pattern. That segment has length 0 if dy is 1 or −1.
+#[test]
+fn polylines_that_stop_short_are_outlines() {
+    for (dx, dy) in [(5i16, 3i16), (-5, 4), (1, 1), (4, -1), (-3, -5), (-1, 1)] {
+        for pattern in [0xFFFF, 0x8000, 0xA6C3, 0x1234] {
+            let mut bench = paper(13, 13);
+            let mut other = bench.clone();
+            let before: [&[u16]; 3] = [&[0x4100, 0xFFFF, 6], &[0x0600, pattern], &at(6, 6)];
+            let last = -dy + dy.signum();
+            draw_polyline(
+                &mut bench,
+                &before,
+                &[[dx, 0], [0, dy], [-dx, 0], [0, last]],
+            );
+            let rect = [0x5800, dx as u16, dy as u16];
+            other.done(&[&before.concat(), &rect]);
+            assert_eq!(bench.screen, other.screen, "{dx} {dy} {pattern:x}");
+        }
+    }
+}
+
+/// Under exclusive or the corners of an open polyline stay. A closed one takes
+/// its start out, and a segment back over the one before it all but the joint.
+#[test]
+fn polylines_under_exclusive_or() {
+    let exclusive_or = [0x4100, 0xFFFF, 6];
+    let drawn = |pairs: &[[i16; 2]]| {
+        let mut bench = paper(4, 3);
+        draw_polyline(&mut bench, &[&exclusive_or], pairs);
+        [bench.line(0), bench.line(1), bench.line(2)]
+    };
+    assert_eq!(
+        drawn(&[[3, 0], [0, 2], [-3, 0]]),
+        [[1, 1, 1, 1], [0, 0, 0, 1], [1, 1, 1, 1]]
+    );
+    assert_eq!(
+        drawn(&[[3, 0], [0, 2], [-3, 0], [0, -2]]),
+        [[0, 1, 1, 1], [1, 0, 0, 1], [1, 1, 1, 1]]
+    );
+    assert_eq!(
+        drawn(&[[3, 0], [-3, 0]]),
+        [[0, 0, 0, 1], [0, 0, 0, 0], [0, 0, 0, 0]]
+    );
+}
+
+/// A first segment of length 0 is one pixel with index 0; a later one draws
+/// nothing and takes no index, also between others and at the end.
+#[test]
+fn segments_of_length_0() {
+    let drawn = |pairs: &[[i16; 2]]| {
+        let mut bench = paper(6, 1);
+        draw_polyline(
+            &mut bench,
+            &[&[0x4100, 0xFFFF, 6], &[0x0600, 0xA600]],
+            pairs,
+        );
+        bench.line(0)
+    };
+    assert_eq!(drawn(&[[0, 0]]), [1, 0, 0, 0, 0, 0]);
+    assert_eq!(drawn(&[[0, 0], [0, 0], [0, 0]]), [1, 0, 0, 0, 0, 0]);
+    assert_eq!(drawn(&[[0, 0], [3, 0]]), [1, 2, 1, 2, 0, 0]);
+    assert_eq!(
+        drawn(&[[2, 0], [0, 0], [0, 0], [3, 0], [0, 0]]),
+        [1, 2, 1, 2, 2, 1]
+    );
+}
+
+/// The position wraps between two segments; the third begins at the wrapped one
+/// and skips its first pixel, which nothing has drawn. The first two segments
+/// take the indexes 0 to 65532; the third goes on with 65533, which is 13 mod
+/// 16. Index 14 alone is in the foreground.
+#[test]
+fn polylines_whose_position_wraps() {
+    for down in [false, true] {
+        let mut bench = if down { paper(1, 8) } else { paper(8, 1) };
+        let turned = |along: i16| if down { [0, along] } else { [along, 0] };
+        draw_polyline(
+            &mut bench,
+            &[&[0x0600, 0x0002], &at(turned(1)[0], turned(1)[1])],
+            &[turned(-32768), turned(-32764), turned(2)],
+        );
+        let drawn: Vec<_> = if down {
+            (0..8).map(|y| bench.line(y)[0]).collect()
+        } else {
+            bench.line(0)
+        };
+        assert_eq!(drawn, [2, 2, 0, 0, 0, 0, 2, 1]);
+        let look = bench.look(0).unwrap();
+        assert_eq!([look.x, look.y], turned(7));
+    }
+}
+
+/// Two joints outside the clip: the pixels there take their indexes.
+#[test]
+fn polylines_that_leave_the_clip() {
+    let mut bench = paper(8, 2);
+    draw_polyline(
+        &mut bench,
+        &[&[0x4600, 0, 0, 3, 1], &[0x0600, 0xA6C3]],
+        &[[5, 0], [0, 1], [-5, 0]],
+    );
+    // Indexes 0 to 3 in the clip, 4 to 7 outside, 8 to 11 in it again.
+    assert_eq!(bench.line(0), [1, 2, 1, 2, 0, 0, 0, 0]);
+    assert_eq!(bench.line(1), [2, 2, 1, 1, 0, 0, 0, 0]);
+}
+
+/// Each POLYLINE draws the first pixel of its first segment, with index 0, also
+/// where the one before it ended.
+#[test]
+fn each_polyline_begins_anew() {
+    let mut bench = paper(8, 1);
+    let pairs = [[1, 0], [1, 0]];
+    draw_polyline(&mut bench, &[&[0x0600, 0xA600]], &pairs);
+    assert_eq!(bench.line(0), [1, 2, 1, 0, 0, 0, 0, 0]);
+    draw_polyline(&mut bench, &[&[0x0600, 0x6000]], &pairs);
+    assert_eq!(bench.line(0), [1, 2, 2, 1, 1, 0, 0, 0]);
+}
+
+/// SCAN_LINES "still restarts at each run".
+#[test]
+fn scan_lines_begin_anew_at_each_run() {
+    let mut bench = paper(4, 2);
+    bench.put_words(u32::from(ARRAY), &[0, 0, 2, 0, 1, 2]);
+    bench.done(&[&[0x0600, 0xA000], &[0xBA00, ARRAY, 0, 2]]);
+    assert_eq!(bench.line(0), [1, 2, 1, 0]);
+    assert_eq!(bench.line(1), [1, 2, 1, 0]);
+}
+
+/// The pixel that is skipped picks nothing, nor does a later segment of length
+/// 0; a first one does.
+#[test]
+fn polylines_pick() {
+    let picked = |start: i16, column: u16, pattern: u16, pairs: &[[i16; 2]]| {
+        let mut bench = paper(8, 1);
+        let clip = [0x4600, column, 0, column, 0];
+        let before: [&[u16]; 4] = [&clip, &[0x0700, pattern], &[0x4400], &at(start, 0)];
+        draw_polyline(&mut bench, &before, pairs);
+        assert!(bench.screen.iter().all(|byte| *byte == 0));
+        bench.look(0).unwrap().pick
+    };
+    assert!(picked(3, 3, 0x8000, &[[0, 0]]));
+    // Pixel (3,0) has index 4, the one after it index 5.
+    assert!(!picked(-1, 3, 0x0400, &[[4, 0], [0, 0]]));
+    assert!(picked(-1, 4, 0x0400, &[[4, 0], [0, 0], [1, 0]]));
+    // The position comes to (4,0) by a wrap; no segment has a pixel there.
+    let around = [[-32768, 0], [-32764, 0]];
+    assert!(!picked(0, 4, 0xFFFF, &[around[0], around[1], [0, 0]]));
+    assert!(!picked(0, 4, 0xFFFF, &[around[0], around[1], [2, 0]]));
+    assert!(picked(0, 5, 0xFFFF, &[around[0], around[1], [2, 0]]));
+}
+
 /// Spacing 1, width 3, height 5, at every path and rotation.
 #[test]
 fn characters_move_along_the_path() {

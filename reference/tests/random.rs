@@ -161,6 +161,25 @@ fn random_scripts_cover_the_papers() {
     }
 }
 
+/// Their POLYLINEs put the rule for joints to the test: what is skipped, what
+/// takes a pattern index, and what exclusive or takes out again.
+#[test]
+fn random_scripts_draw_polylines() {
+    let stats = Stats::of(Language::Panes, 300);
+    for special in [
+        "dashed, 3 segments or more",
+        "first segment of length 0",
+        "later segment of length 0",
+        "closed",
+        "closed under exclusive or",
+        "joint outside the clip between two places in it",
+        "position wrapped to a joint in the clip",
+    ] {
+        let times = stats.polylines.get(special);
+        assert!(times.is_some_and(|times| *times >= 20), "{special}");
+    }
+}
+
 /// Those of `calls` peek and clear well, and meet their refusals; bytes that
 /// were drawn are among those peeked.
 #[test]

@@ -9,39 +9,36 @@ use lib.IntN.{pos}
 use lib.ListN.{length}
 use Rattle.model.specs.Ranges.{listed}
 use Rattle.model.specs.Words.{wordAt}
-use Rattle.model.specs.Coordinates.{Place, coord, place, moved}
+use Rattle.model.specs.Coordinates.{coord, place, moved}
 use Rattle.model.specs.declared.Point.{Point}
 use Rattle.model.specs.declared.Pen.{Pen}
 use Rattle.model.specs.Dots.{Drawing, drawing, prepended}
-use Rattle.model.specs.Lines.{lineDots, Pair, Triple, polyline, scanLines}
+use Rattle.model.specs.Lines.{lineDots, pixelsFrom, segments, Pair, Triple, scanLines}
 use Rattle.canvas.specs.declared.Target.{Target}
 use Rattle.canvas.specs.declared.Drawn.{Drawn}
 use Rattle.canvas.specs.Canvas.{Canvas, canvas, Drew}
 use Rattle.canvas.specs.Targets.{Ready}
 use Rattle.coordinates.proofs.SignedLaws.{natAbs-coord}
-use Rattle.canvas.proofs.CanvasLaws.{listed-length}
 use Rattle.canvas.proofs.LoopLaws.{Underway, underway-first, underway-next, underway-last}
-use Rattle.draw_lines.specs.Segments.{longestLine}
+use Rattle.draw_lines.specs.declared.segments.Segment.{Segment}
+use Rattle.draw_lines.specs.Segments.{longestLine, dotsOf}
+use Rattle.draw_lines.proofs.SegmentLaws.{segmentDots-few}
 use Rattle.draw_arrays.specs.declared.Triple as code
-use Rattle.draw_arrays.specs.Arrays.{tripleWords}
-
--- ## How long a line is
-
-lineDots-few : (pen : Pen) (p : Place) (dx dy : ℕ) → length (lineDots pen p (coord dx) (coord dy)) ≤ longestLine
-unfolding lineDots
-lineDots-few pen p dx dy = rw listed-length (omega (arith, natAbs-coord dx, natAbs-coord dy))
+use Rattle.draw_arrays.specs.Arrays.{segmentWords, tripleWords}
 
 -- ## A loop over an array
 
--- one line of those that are left: none sets the trap flag
-pub underway-line : {t : Target} {whole rest : Drawing} {c₀ : Canvas} {screen store : List ℕ} {d : Drawn} {k n : ℕ}
+-- one segment of those that are left: none sets the trap flag
+pub underway-segment : {t : Target} {whole rest : Drawing} {c₀ : Canvas} {screen store : List ℕ} {d : Drawn} {k n : ℕ}
     → Underway t whole rest longestLine c₀ screen store d k n → Ready t (length (c₀ .screen)) (length (c₀ .store)) → d .trap ≡ false → k < n
-    → (rest′ : Drawing) (from : Place) (dx dy : ℕ) {to : Point} {screen′ store′ : List ℕ} {d′ : Drawn}
-    → rest ≡ prepended (lineDots (t .pen) from (coord dx) (coord dy)) rest′
-    → Drew t (drawing (lineDots (t .pen) from (coord dx) (coord dy)) to) (canvas screen store (d .hits)) d′ screen′ store′
+    → (rest′ : Drawing) (from : Point) (s : Segment) {to : Point} {screen′ store′ : List ℕ} {d′ : Drawn}
+    → rest ≡ prepended (dotsOf (t .pen) from s) rest′
+    → Drew t (drawing (dotsOf (t .pen) from s) to) (canvas screen store (d .hits)) d′ screen′ store′
     → Underway t whole rest′ longestLine c₀ screen′ store′ d′ (k + 1) n
-underway-line {t} u r f l rest′ from dx dy e w =
-    underway-next u rest′ r (lineDots (t .pen) from (coord dx) (coord dy)) false (lineDots-few (t .pen) from dx dy) e (rw f (w .trap)) l (w .dots)
+underway-segment {t} u r f l rest′ from s e w =
+    underway-next u rest′ r (dotsOf (t .pen) from s) false
+    (segmentDots-few (t .pen) (place from) (coord (s .dx)) (coord (s .dy)) (s .first) (s .index) (natAbs-coord (s .dx)) (natAbs-coord (s .dy)))
+    e (rw f (w .trap)) l (w .dots)
 
 module _ {A : Type 0} (draw : Point → List A → Drawing) (item : ℕ → A) (n : ℕ) where
   -- what is left to draw from item k on, the position being p
@@ -77,13 +74,27 @@ module _ {A : Type 0} (draw : Point → List A → Drawing) (item : ℕ → A) (
 abbrev pub pairAt : List ℕ → ℕ → ℕ → Pair
 pairAt store a k = record { dx = coord (wordAt store (a + 4 * k)); dy = coord (wordAt store (a + 4 * k + 2)) }
 
--- a LINE, and what is left from its far end
-pub polyline-next : (pen : Pen) (store : List ℕ) (a n k : ℕ) (p p′ : Point) {dx dy : ℕ} → k < n
-    → dx ≡ wordAt store (a + 4 * k) → dy ≡ wordAt store (a + 4 * k + 2) → p′ ≡ moved p (coord dx) (coord dy)
-    → itemsLeft (polyline pen) (pairAt store a) n k p
-    ≡ prepended (lineDots pen (place p) (coord dx) (coord dy)) (itemsLeft (polyline pen) (pairAt store a) n (k + 1) p′)
-unfolding polyline
-polyline-next pen store a n k p p′ h ex ey ep = itemsLeft-next (polyline pen) (pairAt store a) n k p h ∙ rw (ep, ex, ey)
+-- a pair whose words read alike
+pub segment-same : (l m : List ℕ) (a first index : ℕ) → ((j : ℕ) → a ≤ j → j + 1 < a + 4 → wordAt l j ≡ wordAt m j)
+    → segmentWords l a first index ≡ segmentWords m a first index
+segment-same l m a first index h =
+    let p = h a (omega arith) (omega arith) in
+    let q = h (a + 2) (omega arith) (omega arith) in
+    λ i. record { dx = p i; dy = q i; first = first; index = index }
+
+-- what is left to draw from pair k on, the next segment beginning with pixel `first` and index `index`
+abbrev pub segmentsLeft : Pen → List ℕ → ℕ → ℕ → ℕ → ℕ → ℕ → Point → Drawing
+segmentsLeft pen store a n first index k p = itemsLeft (λ q. segments pen q first index) (pairAt store a) n k p
+
+-- a segment, and what is left from its far end, from pixel 1 on with the next index
+pub segments-next : (pen : Pen) (store : List ℕ) (a n k first index : ℕ) (p p′ : Point) (s : Segment) {count : ℕ} → k < n
+    → s ≡ segmentWords store (a + 4 * k) first index → p′ ≡ moved p (coord (s .dx)) (coord (s .dy))
+    → count ≡ pixelsFrom (s .first) (coord (s .dx)) (coord (s .dy))
+    → segmentsLeft pen store a n first index k p
+    ≡ prepended (dotsOf pen p s) (segmentsLeft pen store a n 1 (index + count) (k + 1) p′)
+unfolding segments
+segments-next pen store a n k first index p p′ s h es ep ec =
+    itemsLeft-next (λ q. segments pen q first index) (pairAt store a) n k p h ∙ rw (ep, ec, es)
 
 -- ## SCAN_LINES
 

@@ -11,21 +11,39 @@ ghost use Rattle.model.specs.Lines.{lineDots, pairsAt, polyline, triplesAt, sca
 ghost use Rattle.canvas.specs.Canvas.{canvas, countEnd, Drew, Painted, Reach};
 ghost use Rattle.canvas.specs.Targets.{Ready};
 ghost use Rattle.spans.specs.Spans.{Strung};
-ghost use Rattle.draw_lines.specs.Segments.{longestLine};
-ghost use Rattle.draw_arrays.specs.Arrays.{tripleWords};
+ghost use Rattle.draw_lines.specs.Segments.{longestLine, dotsOf, Traceable};
+ghost use Rattle.draw_arrays.specs.Arrays.{segmentWords, tripleWords};
 use canvas::Drawn;
 use canvas::Target;
+use draw_lines::Segment;
+use draw_lines::whole_line;
 use model::Point;
 
-// One pair of POLYLINE: a LINE from the position, which goes to the line's far end.
-fn leg(screen: &mut [u8], store: &mut [u8], t: Target, from: Drawn, dx: u16, dy: u16) -> Drawn
-    requires { ⌜ Ready t (length (now screen)) (length (now store)) × (from .hits + longestLine < countEnd) ⌝ }
-    ensures { λ d. ⌜ Drew t (drawing (lineDots (t .pen) (place (from .position)) (coord dx) (coord dy))
-        (moved (from .position) (coord dx) (coord dy)))
+// The pair at a byte of the store, as a segment that begins with pixel `first` of its line, at pattern index `index`.
+fn segment_at(store: &[u8], at: usize, first: usize, index: usize) -> Segment
+    requires { ⌜ at + 3 < length (now store) ⌝ }
+    ensures { λ r. ⌜ r ≡ segmentWords (now (store .entry)) at first index ⌝ }
+{
+    let dx = words::word(store, at);
+    let dy = words::word(store, at + 2);
+    Segment {
+        dx,
+        dy,
+        first,
+        index,
+    }
+}
+
+// One segment of POLYLINE from the position, which goes to the segment's far end.
+fn leg(screen: &mut [u8], store: &mut [u8], t: Target, from: Drawn, s: Segment) -> Drawn
+    requires { ⌜ Ready t (length (now screen)) (length (now store)) × Traceable s
+        × (from .hits + longestLine < countEnd) ⌝ }
+    ensures { λ d. ⌜ Drew t (drawing (dotsOf (t .pen) (from .position) s)
+        (moved (from .position) (coord (s .dx)) (coord (s .dy))))
         (canvas (now (screen .entry)) (now (store .entry)) (from .hits)) d (now (screen .exit)) (now (store .exit)) ⌝ }
 {
-    let hits = draw_lines::segment(screen, store, t, from.position, dx, dy, from.hits);
-    let position = coordinates::move_by(from.position, dx, dy);
+    let hits = draw_lines::draw_segment(screen, store, t, from.position, s, from.hits);
+    let position = coordinates::move_by(from.position, s.dx, s.dy);
     Drawn {
         position,
         trap: false,
@@ -33,7 +51,8 @@ fn leg(screen: &mut [u8], store: &mut [u8], t: Target, from: Drawn, dx: u16, dy:
     }
 }
 
-// POLYLINE by the n pairs at a byte of the store: each is a LINE from where the one before ended.
+// POLYLINE by the n pairs at a byte of the store: the first is a whole line, and each other goes on from where the
+// one before ended, without its first pixel and with the next pattern index.
 pub fn polyline(
     screen: &mut [u8],
     store: &mut [u8],
@@ -52,12 +71,14 @@ pub fn polyline(
         trap: false,
         hits: 0,
     };
+    let mut first = 0;
+    let mut index = 0;
     let mut k = 0;
     while k < n {
-        let at = array + 4 * k;
-        let dx = words::word(store, at);
-        let dy = words::word(store, at + 2);
-        d = leg(screen, store, t, d, dx, dy);
+        let s = segment_at(store, array + 4 * k, first, index);
+        d = leg(screen, store, t, d, s);
+        index += draw_lines::pixels_of(s);
+        first = 1;
         k += 1;
     }
     d
@@ -98,7 +119,7 @@ fn line_either_way(
         (canvas (now (screen .entry)) (now (store .entry)) hits) (canvas (now (screen .exit)) (now (store .exit)) r) ⌝ }
 {
     if coordinates::is_negative(len) {
-        return draw_lines::lone_line(screen, store, t, from, len, hits);
+        return draw_lines::lone_line(screen, store, t, from, whole_line(len, 0), hits);
     }
     draw_lines::level_line(screen, store, strips, t, from, len, hits)
 }

@@ -1,22 +1,23 @@
--- The pixels of a line by its course and its axes are those of the paper's LINE, and the running remainder gives the minor offset.
-use mathlib.Core.Path.{_≡_, sym, ap₂, _∙_}
-use mathlib.Core.Bool.{true, false, cond}
-use Prim.Native.Nat.{ℕ, zero, suc, _+_, _*_, _≤_, _<_, max}
-use native.Mathlib.Nat.{div-zero, zero-add}
+-- The pixels of a segment by its line's course and axes are those of the paper's LINE, and the running remainder gives the minor offset.
+use mathlib.Core.Path.{_≡_, sym, ap, ap₂, _∙_}
+use mathlib.Core.Bool.{Bool, true, false, cond}
+use Prim.Native.Nat.{ℕ, zero, suc, _+_, _-_, _*_, _≤_, _<_, max}
+use native.Mathlib.Nat.{div-zero}
 use native.Mathlib.Numerals.{add-one}
 use native.Mathlib.Omega.{arith}
 use borrow.Author.Tests.{le-leb, lt-leb}
 use lib.Arith.{digits-div}
-use lib.IntN.{ℤ, pos, natAbs, _+ℤ_, +ℤ-idr}
+use lib.ListN.{length}
+use lib.IntN.{ℤ, pos, negℤ, natAbs, _+ℤ_, +ℤ-idr, +ℤ-assoc, negℤ-+ℤ}
 use Rattle.model.specs.Ranges.{listed}
-use Rattle.model.specs.Coordinates.{coord, negative, at, offset, place}
+use Rattle.model.specs.Coordinates.{Place, coord, negative, at, offset, place}
 use Rattle.model.specs.declared.Point.{Point}
 use Rattle.model.specs.declared.Pen.{Pen}
 use Rattle.model.specs.declared.Source.{Source}
 use Rattle.model.specs.Pixels.{patternSource}
 use Rattle.model.specs.Dots.{dot}
-use Rattle.model.specs.Lines.{minorAt, major, minor, offsetX, offsetY, lineDots, pointAt}
-use Rattle.coordinates.specs.Offsets.{unbiased}
+use Rattle.model.specs.Lines.{minorAt, major, minor, offsetX, offsetY, segmentDots, pointAt}
+use Rattle.coordinates.specs.Offsets.{directed, unbiased}
 use Rattle.coordinates.proofs.SignedLaws.{signAs-directed}
 use Rattle.canvas.specs.declared.Course.{Course}
 use Rattle.canvas.specs.declared.Offset.{Offset}
@@ -27,7 +28,9 @@ use Rattle.spans.specs.declared.Span.{Span}
 use Rattle.spans.specs.Spans.{spanDot, spanDots}
 use Rattle.draw_lines.specs.Segments.{longestLine, AxesOf, traceAt, traceDot}
 use Rattle.canvas.specs.Targets.{courseOf}
+use Rattle.canvas.proofs.CanvasLaws.{listed-length}
 use Rattle.draw_lines.specs.declared.segments.Axes.{Axes}
+use Rattle.draw_lines.specs.declared.segments.Segment.{Segment}
 use Rattle.draw_lines.specs.declared.slopes.Slope.{Slope}
 
 -- ## The minor offset
@@ -45,6 +48,13 @@ pub record Climbed (axes : Axes) (span : ℕ) (slope : Slope) (i : ℕ) : Type 0
   pub low : slope .at ≤ i
   pub rest : slope .rest < span
   pub sum : slope .at * span + slope .rest ≡ 2 * i * axes .smaller + axes .larger
+
+-- .. before the first climb, and after it
+pub climbed-first : (axes : Axes) {span : ℕ} (slope : Slope) (first : ℕ) → first ≤ 1 → slope .at ≤ first → slope .rest < span
+    → slope .at * span + slope .rest ≡ first * (2 * axes .smaller) + axes .larger → Climbed axes span slope first
+climbed-first axes slope zero h l r e = record { low = l; rest = r; sum = omega arith }
+climbed-first axes slope (suc zero) h l r e = record { low = l; rest = r; sum = omega arith }
+climbed-first axes slope (suc (suc first)) h l r e = absurd (let n : ⊥ = omega arith in n)
 
 -- .. so that its offset is pixel i's
 pub traceAt-climbed : (axes : Axes) {span : ℕ} (slope : Slope) (i : ℕ) {x y : ℕ} → axes .smaller ≤ axes .larger → span ≡ max 1 (2 * axes .larger)
@@ -68,18 +78,37 @@ module _ (dx dy : ℤ) {a b : ℕ} (p : a ≡ natAbs dx) (q : b ≡ natAbs dy) w
       let g : natAbs dx < natAbs dy = omega arith in
       record { level = sym (lt-leb (natAbs dy) (natAbs dx) g); larger = omega arith; smaller = omega arith; small = l }
 
-pub lineDots-trace : (pen : Pen) (from : Point) (dx dy : ℤ) {course : Course} {axes : Axes} → course ≡ courseOf from dx dy → AxesOf dx dy axes
-    → lineDots pen (place from) dx dy ≡ listed 0 (axes .larger + 1) (traceDot pen course axes)
-unfolding lineDots traceDot
-lineDots-trace pen from dx dy c a = simp (c, a .level, a .larger, a .smaller, add-one (major dx dy), signAs-directed, traceDot)
+pub segmentDots-trace : (pen : Pen) (from : Point) (dx dy : ℤ) (s : Segment) {course : Course} {axes : Axes} → course ≡ courseOf from dx dy
+    → AxesOf dx dy axes
+    → segmentDots pen (place from) dx dy (s .first) (s .index) ≡ listed 0 (axes .larger + 1 - s .first) (traceDot pen course axes s)
+unfolding segmentDots traceDot
+segmentDots-trace pen from dx dy s c a = simp (c, a .level, a .larger, a .smaller, add-one (major dx dy), signAs-directed, traceDot)
 
--- a dot drawn where pixel i lies
-pub traceDot-drawn : (pen : Pen) (course : Course) (axes : Axes) (i : ℕ) {o : Offset} {source : Source} → o ≡ traceAt axes i → source ≡ patternSource pen i
-    → dot (placeOn course o) source ≡ traceDot pen course axes i
+-- a dot drawn where pixel k lies
+pub traceDot-drawn : (pen : Pen) (course : Course) (axes : Axes) (s : Segment) (k : ℕ) {o : Offset} {source : Source}
+    → o ≡ traceAt axes (k + s .first) → source ≡ patternSource pen (k + s .index)
+    → dot (placeOn course o) source ≡ traceDot pen course axes s k
 unfolding traceDot
-traceDot-drawn pen course axes i e s = ap₂ (λ (o : Offset) (q : Source). dot (placeOn course o) q) e s
+traceDot-drawn pen course axes s k e q = ap₂ (λ (o : Offset) (w : Source). dot (placeOn course o) w) e q
 
--- ## A horizontal line
+-- how long a segment is
+pub segmentDots-few : (pen : Pen) (p : Place) (dx dy : ℤ) (first index : ℕ) → natAbs dx ≤ 32768 → natAbs dy ≤ 32768
+    → length (segmentDots pen p dx dy first index) ≤ longestLine
+unfolding segmentDots
+segmentDots-few pen p dx dy first index h k = rw listed-length (omega arith)
+
+-- ## A horizontal segment
+
+-- some steps, and then more the same way
+directed-on : (z : ℤ) (back : Bool) (m k : ℕ) → z +ℤ directed back m +ℤ directed back k ≡ z +ℤ directed back (k + m)
+directed-on z false m k =
+    let e : m + k ≡ k + m = omega arith in
+    +ℤ-assoc z (pos m) (pos k) ∙ ap (λ (n : ℕ). z +ℤ pos n) e
+directed-on z true m k =
+    let e : m + k ≡ k + m = omega arith in
+    +ℤ-assoc z (negℤ (pos m)) (negℤ (pos k))
+    ∙ ap (λ (w : ℤ). z +ℤ w) (sym (negℤ-+ℤ (pos m) (pos k)))
+    ∙ ap (λ (n : ℕ). z +ℤ negℤ (pos n)) e
 
 module _ (len : ℤ) where
   level-offset : (i : ℕ) → minorAt (major len (pos 0)) (minor len (pos 0)) i ≡ 0
@@ -87,19 +116,31 @@ module _ (len : ℤ) where
       let e : minor len (pos 0) ≡ 0 = omega arith in
       rw e (sym (minorAt-rest (major len (pos 0)) 0 i 0 (major len (pos 0)) (omega arith) (omega arith) (omega arith)))
 
-  -- a span from a position in the line's direction, the pattern begun with it, has the line's dots
-  module _ (pen : Pen) (from : Point) (s : Span) (ex : unbiased (s .x) ≡ coord (from .x) +ℤ pos 0) (ey : unbiased (s .y) ≡ coord (from .y) +ℤ pos 0)
-      (el : s .left ≡ negative len) (ec : s .count ≡ natAbs len + 1) (ei : s .index ≡ 0) where
-    level-dot : (i : ℕ) → spanDot pen s i ≡ dot (offset (place from) (offsetX len (pos 0) i) (offsetY len (pos 0) i)) (patternSource pen i)
+  -- a span from the segment's first pixel in its direction has the segment's dots
+  module _ (pen : Pen) (from : Point) (first : ℕ) (r : Span) (el : r .left ≡ negative len)
+      (ex : unbiased (r .x) ≡ coord (from .x) +ℤ directed (negative len) first) (ey : unbiased (r .y) ≡ coord (from .y) +ℤ pos 0)
+      (ec : r .count ≡ natAbs len + 1 - first) where
+    level-dot : (k : ℕ) → spanDot pen r k
+        ≡ dot (offset (place from) (offsetX len (pos 0) (k + first)) (offsetY len (pos 0) (k + first))) (patternSource pen (k + r .index))
     unfolding spanDot
-    level-dot i =
-        rw (le-leb 0 (natAbs len) (omega arith), level-offset i, signAs-directed len i, el, ei, zero-add i, ex, ey, +ℤ-idr (coord (from .x)))
+    level-dot k =
+        let i : r .index + k ≡ k + r .index = omega arith in
+        rw (
+          le-leb 0 (natAbs len) (omega arith),
+          level-offset (k + first),
+          signAs-directed len (k + first),
+          el,
+          i,
+          ex,
+          ey,
+          directed-on (coord (from .x)) (negative len) first k,
+        )
 
-    pub level-dots : spanDots pen s ≡ lineDots pen (place from) len (pos 0)
-    unfolding lineDots spanDots
+    pub level-dots : spanDots pen r ≡ segmentDots pen (place from) len (pos 0) first (r .index)
+    unfolding segmentDots spanDots
     level-dots =
-        let e : s .count ≡ suc (major len (pos 0)) = omega arith in
-        λ j. listed 0 (e j) (λ i. level-dot i j)
+        let e : r .count ≡ suc (major len (pos 0)) - first = omega arith in
+        λ j. listed 0 (e j) (λ k. level-dot k j)
 
 -- ## POINT
 

@@ -1,24 +1,39 @@
--- A line's pixels by its course and its axes, as the code has them.
-use Prim.Native.Nat.{ℕ, _<_}
+-- A segment's pixels by its line's course and axes, as the code has them.
+use Prim.Native.Nat.{ℕ, _+_, _≤_, _<_}
 use mathlib.Core.Path.{_≡_}
 use mathlib.Core.Bool.{cond}
+use mathlib.Core.List.{List}
 use lib.IntN.{ℤ, pos}
 use Rattle.model.specs.Coordinates.{coord, negative, place}
 use Rattle.model.specs.declared.Pen.{Pen}
 use Rattle.model.specs.declared.Point.{Point}
 use Rattle.model.specs.Pixels.{patternSource}
 use Rattle.model.specs.Dots.{Dot, dot}
-use Rattle.model.specs.Lines.{major, minor, flat, minorAt, lineDots}
+use Rattle.model.specs.Lines.{major, minor, flat, minorAt, segmentDots}
 use Rattle.canvas.specs.declared.Course.{Course}
 use Rattle.canvas.specs.declared.Offset.{Offset}
 use Rattle.canvas.specs.Targets.{placeOn}
 use Rattle.spans.specs.declared.Span.{Span}
-use Rattle.spans.specs.Spans.{Bounded, spanDots}
+use Rattle.spans.specs.Spans.{Bounded, indexEnd, spanDots}
 use Rattle.draw_lines.specs.declared.segments.Axes.{Axes}
+use Rattle.draw_lines.specs.declared.segments.Segment.{Segment}
 
 -- the most pixels that a line has: an offset's magnitude is at most 32,768
 abbrev pub longestLine : ℕ
 longestLine = 32769
+
+-- a segment that can be traced: it begins with the line's first pixel or the one after it, and its index is small
+pub record Traceable (s : Segment) : Type 0 where
+  pub first : s .first ≤ 1
+  pub index : s .index < indexEnd
+
+-- the dots of a segment from a position
+abbrev pub dotsOf : Pen → Point → Segment → List Dot
+dotsOf pen from s = segmentDots pen (place from) (coord (s .dx)) (coord (s .dy)) (s .first) (s .index)
+
+-- a whole line as a segment
+abbrev pub wholeLine : ℕ → ℕ → Segment
+wholeLine dx dy = record { dx = dx; dy = dy; first = 0; index = 0 }
 
 -- the axes of a line by (dx,dy)
 pub record AxesOf (dx dy : ℤ) (a : Axes) : Type 0 where
@@ -35,12 +50,14 @@ traceAt a i =
       y = cond (a .level) (minorAt (a .larger) (a .smaller) i) i;
     }
 
--- pixel i
-unfoldable pub traceDot : Pen → Course → Axes → ℕ → Dot
-traceDot pen course axes i = dot (placeOn course (traceAt axes i)) (patternSource pen i)
+-- pixel k of a segment
+unfoldable pub traceDot : Pen → Course → Axes → Segment → ℕ → Dot
+traceDot pen course axes s k =
+    dot (placeOn course (traceAt axes (k + s .first))) (patternSource pen (k + s .index))
 
--- the span of a horizontal line by `len` from a position: its numbers are small, and its dots are the line's
-pub record LevelSpan (from : Point) (len : ℕ) (s : Span) : Type 0 where
-  pub bounded : Bounded s
-  pub left : s .left ≡ negative (coord len)
-  pub dots : (pen : Pen) → spanDots pen s ≡ lineDots pen (place from) (coord len) (pos 0)
+-- the span of a horizontal segment from a position: its numbers are small, and its dots are the segment's
+pub record LevelSpan (from : Point) (s : Segment) (r : Span) : Type 0 where
+  pub bounded : Bounded r
+  pub left : r .left ≡ negative (coord (s .dx))
+  pub dots : (pen : Pen)
+      → spanDots pen r ≡ segmentDots pen (place from) (coord (s .dx)) (pos 0) (s .first) (s .index)

@@ -4,7 +4,8 @@ ghost use Rattle.model.specs.Coordinates.{coord, moved};
 ghost use Rattle.model.specs.Lines.{line, pointAt};
 ghost use Rattle.canvas.specs.Canvas.{canvas, Drew};
 ghost use Rattle.canvas.specs.Targets.{Ready};
-use crate::segments::segment;
+use crate::segments::draw_segment;
+use crate::segments::whole_line;
 use canvas::Drawn;
 use canvas::Offset;
 use canvas::Target;
@@ -35,7 +36,7 @@ pub fn line(screen: &mut [u8], store: &mut [u8], t: Target, from: Point, dx: u16
     ensures { λ d. ⌜ Drew t (line (t .pen) from (coord dx) (coord dy))
         (canvas (now (screen .entry)) (now (store .entry)) 0) d (now (screen .exit)) (now (store .exit)) ⌝ }
 {
-    let hits = segment(screen, store, t, from, dx, dy, 0);
+    let hits = draw_segment(screen, store, t, from, whole_line(dx, dy), 0);
     let position = coordinates::move_by(from, dx, dy);
     Drawn {
         position,

@@ -1,10 +1,13 @@
 // POINT, LINE, and the lines of an array: each as the dots that the paper names, drawn in order.
 pub mod slopes; // slopes.rt: the minor offset of a line's pixels, kept by its remainder
-pub mod segments; // segments.rt: one line, sloped or level, with the count carried on
+pub mod segments; // segments.rt: one segment of a line, sloped or level, with the count carried on
 pub mod commands; // commands.rt: POINT and LINE
 
 pub use commands::line;
 pub use commands::point;
+pub use segments::Segment;
+pub use segments::draw_segment;
 pub use segments::level_line;
 pub use segments::lone_line;
-pub use segments::segment;
+pub use segments::pixels_of;
+pub use segments::whole_line;

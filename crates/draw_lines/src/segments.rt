@@ -1,18 +1,17 @@
-// One line from a position, sloped or level. Every pixel takes its pattern index, drawn or not.
+// One segment of a line from a position, sloped or level. Every pixel of it takes its pattern index, drawn or not.
+ghost use mathlib.Core.Path.{_≡_};
 ghost use Prim.Native.Nat.{_+_, _≤_, _<_};
 ghost use lib.IntN.{pos};
 ghost use lib.ListN.{length};
-ghost use Rattle.model.specs.Ranges.{listed};
 ghost use Rattle.model.specs.Coordinates.{coord, negative, place};
-ghost use Rattle.model.specs.Lines.{lineDots};
+ghost use Rattle.model.specs.Lines.{lineDots, pixelsFrom, segmentDots};
 ghost use Rattle.canvas.specs.Canvas.{canvas, countEnd, Painted};
 ghost use Rattle.canvas.specs.Targets.{Ready};
 ghost use Rattle.spans.specs.Spans.{Strung};
-ghost use Rattle.draw_lines.specs.Segments.{longestLine, LevelSpan, AxesOf, traceDot};
-use crate::slopes::Slope;
+ghost use Rattle.draw_lines.specs.Segments.{longestLine, dotsOf, wholeLine, Traceable, LevelSpan, AxesOf};
 use crate::slopes::climb;
+use crate::slopes::slope_from;
 use crate::slopes::span_of;
-use canvas::Course;
 use canvas::Offset;
 use canvas::Target;
 use model::Point;
@@ -21,6 +20,26 @@ use spans::Span;
 // The length from which a horizontal line is drawn as a span: a shorter one is drawn sooner dot by dot than its
 // strips are worked out.
 const SHORTEST_SPAN: usize = 16;
+
+// A segment of a line by (dx,dy): the line's pixels from pixel `first` on, which takes pattern index `index`.
+pub struct Segment {
+    pub dx: u16,
+    pub dy: u16,
+    pub first: usize,
+    pub index: usize,
+}
+
+// A whole line as a segment: all its pixels, the pattern begun with the first.
+pub fn whole_line(dx: u16, dy: u16) -> Segment
+    ensures { λ s. ⌜ (s ≡ wholeLine dx dy) × Traceable s ⌝ }
+{
+    Segment {
+        dx,
+        dy,
+        first: 0,
+        index: 0,
+    }
+}
 
 // The axes of a line: the larger magnitude goes along the major axis, which is x if level, and the smaller
 // along the minor.
@@ -50,52 +69,65 @@ fn axes_of(dx: u16, dy: u16) -> Axes
     }
 }
 
-// The pixels of a line on a course: hits and how many of them are visible.
+// How many pixels a segment has: so many pattern indexes are taken.
+pub fn pixels_of(s: Segment) -> usize
+    requires { ⌜ Traceable s ⌝ }
+    ensures { λ r. ⌜ (r ≡ pixelsFrom (s .first) (coord (s .dx)) (coord (s .dy))) × (r ≤ longestLine) ⌝ }
+{
+    let axes = axes_of(s.dx, s.dy);
+    axes.larger + 1 - s.first
+}
+
+// A segment from a position, dot by dot: hits and how many of its pixels are visible.
 fn trace(
     screen: &mut [u8],
     store: &mut [u8],
     t: Target,
-    course: Course,
-    axes: Axes,
+    from: Point,
+    s: Segment,
     hits: usize,
 ) -> usize
-    requires { ⌜ Ready t (length (now screen)) (length (now store)) × (axes .larger < longestLine)
-        × (axes .smaller ≤ axes .larger) × (hits + longestLine < countEnd) ⌝ }
-    ensures { λ r. ⌜ Painted t (listed 0 (axes .larger + 1) (traceDot (t .pen) course axes))
-        (canvas (now (screen .entry)) (now (store .entry)) hits) (canvas (now (screen .exit)) (now (store .exit)) r) ⌝ }
+    requires { ⌜ Ready t (length (now screen)) (length (now store)) × Traceable s × (hits + longestLine < countEnd) ⌝ }
+    ensures { λ r. ⌜ Painted t (dotsOf (t .pen) from s) (canvas (now (screen .entry)) (now (store .entry)) hits)
+        (canvas (now (screen .exit)) (now (store .exit)) r) ⌝ }
 {
+    let course = canvas::course_of(from, s.dx, s.dy);
+    let axes = axes_of(s.dx, s.dy);
     let n = axes.larger;
     let span = span_of(n);
     let rise = 2 * axes.smaller;
-    let mut slope = Slope { at: 0, rest: n };
+    let count = n + 1 - s.first;
+    let mut slope = slope_from(s.first, n, rise, span);
     let mut seen = hits;
-    let mut i = 0;
-    while i <= n {
-        let source = canvas::pattern_source(t.pen, i);
+    let mut k = 0;
+    while k < count {
+        let i = k + s.first;
+        let source = canvas::pattern_source(t.pen, k + s.index);
         let x = words::either(axes.level, i, slope.at);
         let y = words::either(axes.level, slope.at, i);
         let o = Offset { x, y };
         seen = canvas::draw_dot(screen, store, t, course, o, source, seen);
         slope = climb(slope, rise, span);
-        i += 1;
+        k += 1;
     }
     seen
 }
 
-// The span of a horizontal line by `len` from a position.
-fn level_span(from: Point, len: u16) -> Span
-    ensures { λ s. ⌜ LevelSpan from len s ⌝ }
+// The span of a horizontal segment by `dx` from a position.
+fn level_span(from: Point, s: Segment) -> Span
+    requires { ⌜ Traceable s ⌝ }
+    ensures { λ r. ⌜ LevelSpan from s r ⌝ }
 {
-    let x = coordinates::biased(from.x, false, 0);
+    let left = coordinates::is_negative(s.dx);
+    let x = coordinates::biased(from.x, left, s.first);
     let y = coordinates::biased(from.y, false, 0);
-    let left = coordinates::is_negative(len);
-    let count = coordinates::magnitude(len) + 1;
+    let count = coordinates::magnitude(s.dx) + 1 - s.first;
     Span {
         x,
         y,
         left,
         count,
-        index: 0,
+        index: s.index,
     }
 }
 
@@ -115,47 +147,44 @@ pub fn level_line(
     ensures { λ r. ⌜ Painted t (lineDots (t .pen) (place from) (coord len) (pos 0))
         (canvas (now (screen .entry)) (now (store .entry)) hits) (canvas (now (screen .exit)) (now (store .exit)) r) ⌝ }
 {
-    let s = level_span(from, len);
+    let s = level_span(from, whole_line(len, 0));
     spans::draw_span(screen, store, strips, t, s, hits)
 }
 
-// A horizontal line by itself, which works out its own strips.
+// A horizontal segment by `dx` by itself, which works out its own strips.
 pub fn lone_line(
     screen: &mut [u8],
     store: &mut [u8],
     t: Target,
     from: Point,
-    len: u16,
+    s: Segment,
     hits: usize,
 ) -> usize
-    requires { ⌜ Ready t (length (now screen)) (length (now store)) × (hits + longestLine < countEnd) ⌝ }
-    ensures { λ r. ⌜ Painted t (lineDots (t .pen) (place from) (coord len) (pos 0))
+    requires { ⌜ Ready t (length (now screen)) (length (now store)) × Traceable s × (hits + longestLine < countEnd) ⌝ }
+    ensures { λ r. ⌜ Painted t (segmentDots (t .pen) (place from) (coord (s .dx)) (pos 0) (s .first) (s .index))
         (canvas (now (screen .entry)) (now (store .entry)) hits) (canvas (now (screen .exit)) (now (store .exit)) r) ⌝ }
 {
-    let s = level_span(from, len);
-    spans::draw_alone(screen, store, t, s, hits)
+    let span = level_span(from, s);
+    spans::draw_alone(screen, store, t, span, hits)
 }
 
-// A line by (dx,dy) from a position: hits and how many of its pixels are visible.
-pub fn segment(
+// A segment from a position: hits and how many of its pixels are visible.
+pub fn draw_segment(
     screen: &mut [u8],
     store: &mut [u8],
     t: Target,
     from: Point,
-    dx: u16,
-    dy: u16,
+    s: Segment,
     hits: usize,
 ) -> usize
-    requires { ⌜ Ready t (length (now screen)) (length (now store)) × (hits + longestLine < countEnd) ⌝ }
-    ensures { λ r. ⌜ Painted t (lineDots (t .pen) (place from) (coord dx) (coord dy))
-        (canvas (now (screen .entry)) (now (store .entry)) hits) (canvas (now (screen .exit)) (now (store .exit)) r) ⌝ }
+    requires { ⌜ Ready t (length (now screen)) (length (now store)) × Traceable s × (hits + longestLine < countEnd) ⌝ }
+    ensures { λ r. ⌜ Painted t (dotsOf (t .pen) from s) (canvas (now (screen .entry)) (now (store .entry)) hits)
+        (canvas (now (screen .exit)) (now (store .exit)) r) ⌝ }
 {
-    if dy == 0 {
-        if coordinates::magnitude(dx) >= SHORTEST_SPAN {
-            return lone_line(screen, store, t, from, dx, hits);
+    if s.dy == 0 {
+        if coordinates::magnitude(s.dx) >= SHORTEST_SPAN {
+            return lone_line(screen, store, t, from, s, hits);
         }
     }
-    let course = canvas::course_of(from, dx, dy);
-    let axes = axes_of(dx, dy);
-    trace(screen, store, t, course, axes, hits)
+    trace(screen, store, t, from, s, hits)
 }

@@ -35,3 +35,15 @@ pub fn climb(s: Slope, rise: usize, span: usize) -> Slope
         rest: sum - span,
     }
 }
+
+// The slope at a line's first pixel or the one after it, where the rest begins with n.
+pub fn slope_from(first: usize, n: usize, rise: usize, span: usize) -> Slope
+    requires { ⌜ (first ≤ 1) × (n < span) × (rise ≤ span) × (span ≤ 65536) ⌝ }
+    ensures { λ r. ⌜ (r .at * span + r .rest ≡ first * rise + n) × (r .rest < span) × (r .at ≤ first) ⌝ }
+{
+    let start = Slope { at: 0, rest: n };
+    if first == 0 {
+        return start;
+    }
+    climb(start, rise, span)
+}

@@ -4,7 +4,7 @@ use Rattle.model.specs.Words.{bit, num, bitAt, fieldAt, splice, putField}
 use Rattle.model.specs.Bitmaps.{gridBit, placeBit, placeShift, inside, pixels, paneSurface, surfaceOf, paneBitmapBad, ruleBroken}
 use Rattle.model.specs.Pixels.{blend, change, changes}
 use Rattle.model.specs.Dots.{visible, hits, changesOf}
-use Rattle.model.specs.Lines.{lineDots, line}
+use Rattle.model.specs.Lines.{segmentDots, line}
 use Rattle.model.specs.Copies.{seen, copyDots, copy, blockBad}
 use Rattle.model.specs.Commands.{opcodeOf, commandOf, fetch, decode}
 use Rattle.model.specs.Faults.{clipOutside, faultOf}
@@ -19,7 +19,7 @@ use Rattle.isolation.specs.TwoRuns.{after, callsOn, repliesOn, Accepted,
 unfoldable pub machine : Unit {0}
 unfolding anyBelow listed joined bit num bitAt fieldAt splice putField gridBit placeBit placeShift inside pixels paneSurface surfaceOf paneBitmapBad
     ruleBroken
-    blend change changes visible hits changesOf lineDots line seen copyDots copy blockBad opcodeOf commandOf fetch decode clipOutside faultOf effectOf madeBy
+    blend change changes visible hits changesOf segmentDots line seen copyDots copy blockBad opcodeOf commandOf fetch decode clipOutside faultOf effectOf madeBy
     planOf attempted obey step stepped follow runs barredFault judgedFault recordAfter judgedCommand met metLast listWalk verdictOf geometryBad rectangleBad storeBad sharePixel shareByte checks progressBad paneBad part inPart ownRefusal
     onPane
     rowOf recordOf storeOf setupRefusal callChecks refusal withPane accepted exec setUp after callsOn repliesOn Accepted SamePixels storeIn

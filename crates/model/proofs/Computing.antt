@@ -5,7 +5,8 @@ use Rattle.model.specs.Bitmaps.{gridBit, placeBit, placeShift, inside, p
 use Rattle.model.specs.Bitmaps.{ruleBroken, touches}
 use Rattle.model.specs.Pixels.{blend, change, changes}
 use Rattle.model.specs.Dots.{visible, hits, changesOf}
-use Rattle.model.specs.Lines.{lineDots, line, pointAt, pairsAt, polyline, alongX, alongY, walk, visited, once, patterned, rectangle, triplesAt, scanLines}
+use Rattle.model.specs.Lines.{segmentDots, line, pointAt, pairsAt, segments, polyline, triplesAt, scanLines}
+use Rattle.model.specs.Lines.{alongX, alongY, walk, visited, once, patterned, rectangle}
 use Rattle.model.specs.Circles.{reflections, reflectionsOn, circlePoints, circle}
 use Rattle.model.specs.Copies.{seen, copyDots, copy, blockBad, blockTouches, sharing}
 use Rattle.model.specs.Glyphs.{selector, descriptor, cellBit, rotated, glyphDots, advance, onPath, passed, string}
@@ -21,10 +22,10 @@ use Rattle.model.specs.Calls.{setUp}
 
 -- drawing
 unfoldable pub figuring : Unit {0}
-unfolding anyBelow listed joined bit num fieldAt splice putField gridBit placeBit placeShift inside pixels paneSurface storeSurface surfaceOf paneBitmapBad
-    storeBitmapBad ruleBroken touches blend change changes visible hits changesOf lineDots line pointAt pairsAt polyline alongX alongY walk visited once
-    patterned rectangle triplesAt scanLines reflections reflectionsOn circlePoints circle seen copyDots copy blockBad blockTouches sharing selector descriptor
-    cellBit rotated glyphDots advance onPath passed string
+unfolding anyBelow listed joined bit num fieldAt splice putField gridBit placeBit placeShift inside pixels paneSurface storeSurface surfaceOf
+    paneBitmapBad storeBitmapBad ruleBroken touches blend change changes visible hits changesOf segmentDots line pointAt pairsAt segments polyline
+    alongX alongY walk visited once patterned rectangle triplesAt scanLines reflections reflectionsOn circlePoints circle seen copyDots copy blockBad
+    blockTouches sharing selector descriptor cellBit rotated glyphDots advance onPath passed string
 figuring = tt
 
 -- and everything else

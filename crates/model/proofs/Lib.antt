@@ -6,6 +6,7 @@ pub mod PlaceLaws
 pub mod PartLaws
 pub mod PixelLaws
 pub mod DotLaws
+pub mod JointLaws
 pub mod OutlineLaws
 pub mod CirclePointLaws
 pub mod CircleLaws
@@ -23,6 +24,7 @@ pub mod Pictures
 pub mod Figures
 pub mod Example
 pub mod LinePictures
+pub mod JointPictures
 pub mod CirclePictures
 pub mod PenPictures
 pub mod CopyPictures

@@ -1,5 +1,5 @@
 -- Pictures of lines (01, "Pixels"): LINE, POINT, POLYLINE, SCAN_LINES, RECT, and the clip that cuts them.
--- The expected values were worked out by a small program that was written from the sentences of the paper and from 003, and not from these
+-- The expected values were worked out by a small program that was written from the sentences of the papers and from 003, and not from these
 -- definitions; the smaller pictures were followed by hand too.
 use mathlib.Core.Path.{_≡_, refl}
 use mathlib.Core.List.{List, [], _∷_}
@@ -73,16 +73,16 @@ table =
     (blank 1)
     (ended 4 30 (pos 0) (pos 0) 0 0)
     (0b10000000_00000000 ∷ [])
-    -- POLYLINE, the pattern begun anew at each of three lines; one leaves the pane. Then one of no lines
+    -- POLYLINE, the pattern carried on through the joints of three lines (02, A.4); one leaves the pane. Then one of no lines
     ∷ withPieces (piece 0x40 (bytes (0xFFFB ∷ 0xFFFE ∷ 0x0006 ∷ 0xFFFF ∷ 0x0004 ∷ 0x0002 ∷ [])) ∷ [])
     (drawn (screen 16 5 1) (paneRow 2 1 13 4 76)
-    (defBitmap thePane 12 3 1 ∷ defColors 0xFFFF 0x0000 ∷ opaque 0xD400 ∷ absMov 3 3 ∷ polyline 0x40 3 ∷ polyline 0x40 0 ∷ halt ∷ [])
+    (defBitmap thePane 12 3 1 ∷ defColors 0xFFFF 0x0000 ∷ opaque 0xD56B ∷ absMov 3 3 ∷ polyline 0x40 3 ∷ polyline 0x40 0 ∷ halt ∷ [])
     (blank 5)
     (ended 6 44 (pos 8) (pos 2) 0 0)
     (0b00000000_00000000 ∷
-    0b00010110_00000000 ∷
-    0b00000001_00000000 ∷
-    0b00100000_01000000 ∷
+    0b00001100_00000000 ∷
+    0b00100001_00000000 ∷
+    0b00100000_01100000 ∷
     0b00001100_00000000 ∷ []))
     -- SCAN_LINES by XOR: lengths 5, 0 and −3, the pattern begun anew at each; the position stays at the last start
     ∷ withPieces (piece 0x40 (bytes (0x0001 ∷ 0x0000 ∷ 0x0005 ∷ 0x0002 ∷ 0x0001 ∷ 0x0000 ∷ 0x0004 ∷ 0x0001 ∷ 0xFFFD ∷ [])) ∷ [])

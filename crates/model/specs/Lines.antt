@@ -1,5 +1,5 @@
 -- Lines (01, "Pixels"): LINE, POINT, POLYLINE, RECT, SCAN_LINES as dots.
-use Prim.Native.Nat.{ℕ, suc, _+_, _*_, _/_, min, max}
+use Prim.Native.Nat.{ℕ, suc, _+_, _-_, _*_, _/_, min, max}
 use mathlib.Core.Bool.{Bool, true, false, cond, _||_}
 use mathlib.Core.List.{List, [], _∷_, _++_}
 use lib.Dec.{leb}
@@ -35,10 +35,20 @@ offsetX dx dy i = signAs dx (cond (flat dx dy) i (minorAt (major dx dy) (minor d
 abbrev pub offsetY : ℤ → ℤ → ℕ → ℤ
 offsetY dx dy i = signAs dy (cond (flat dx dy) (minorAt (major dx dy) (minor dx dy) i) i)
 
--- "For i = 0 to n": the dots of a line
-unfoldable pub lineDots : Pen → Place → ℤ → ℤ → List Dot
-lineDots pen p dx dy =
-    listed 0 (suc (major dx dy)) (λ i. dot (offset p (offsetX dx dy i) (offsetY dx dy i)) (patternSource pen i))
+-- how many pixels a line has from pixel `first` on: its last is pixel n
+abbrev pub pixelsFrom : ℕ → ℤ → ℤ → ℕ
+pixelsFrom first dx dy = suc (major dx dy) - first
+
+-- a segment: a line's pixels from pixel `first` on, which takes pattern index `index`, and each after it the next
+unfoldable pub segmentDots : Pen → Place → ℤ → ℤ → ℕ → ℕ → List Dot
+segmentDots pen p dx dy first index =
+    listed 0 (pixelsFrom first dx dy)
+    (λ k. dot (offset p (offsetX dx dy (k + first)) (offsetY dx dy (k + first))) (patternSource pen (k + index)))
+
+-- "For i = 0 to n", "Pixel i of a line, from 0, uses pattern bit 15 − (i mod 16)": the dots of a line are the
+-- segment from pixel 0 on, with index 0
+abbrev pub lineDots : Pen → Place → ℤ → ℤ → List Dot
+lineDots pen p dx dy = segmentDots pen p dx dy 0 0
 
 -- "The position ends at the far end"
 unfoldable pub line : Pen → Point → ℤ → ℤ → Drawing
@@ -61,11 +71,18 @@ unfoldable pub pairsAt : List ℕ → ℕ → ℕ → List Pair
 pairsAt store a n =
     listed 0 n (λ k. record { dx = coord (wordAt store (a + 4 * k)); dy = coord (wordAt store (a + 4 * k + 2)) })
 
--- "POLYLINE draws its N pairs as LINEs, the pattern begun anew at each"
+-- segments one after another, the first of them from pixel `first` on with index `index`: "The first pixel of each
+-- segment after the first is skipped and takes no pattern index" (02, A.4)
+unfoldable pub segments : Pen → Point → ℕ → ℕ → List Pair → Drawing
+segments pen p first index [] = drawing [] p
+segments pen p first index (m ∷ ms) =
+    prepended (segmentDots pen (place p) (m .dx) (m .dy) first index)
+    (segments pen (moved p (m .dx) (m .dy)) 1 (index + pixelsFrom first (m .dx) (m .dy)) ms)
+
+-- "A dashed polyline now carries its pattern on through every joint, and a joint is no longer drawn by both its
+-- segments" (02, A.4, in place of 01's sentence): the N pairs as segments, the first of them a whole line
 unfoldable pub polyline : Pen → Point → List Pair → Drawing
-polyline pen p [] = drawing [] p
-polyline pen p (m ∷ ms) =
-    prepended (lineDots pen (place p) (m .dx) (m .dy)) (polyline pen (moved p (m .dx) (m .dy)) ms)
+polyline pen p ms = segments pen p 0 0 ms
 
 -- ## RECT
 

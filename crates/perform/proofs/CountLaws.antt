@@ -14,8 +14,8 @@ use Rattle.model.specs.declared.Block.{Block}
 use Rattle.model.specs.Ranges.{listed}
 use Rattle.model.specs.Words.{wordAt}
 use Rattle.model.specs.Coordinates.{Place, coord, index, offset, signAs, place, moved}
-use Rattle.model.specs.Lines.{Pair, Triple, major, lineDots, line, pointAt, polyline, scanLines, walk, alongX, alongY, once, patterned, rectangle}
-use Rattle.model.specs.Lines.{pairsAt, triplesAt}
+use Rattle.model.specs.Lines.{Pair, Triple, pixelsFrom, segmentDots, lineDots, line, pointAt, segments, polyline, pairsAt, scanLines, triplesAt}
+use Rattle.model.specs.Lines.{walk, alongX, alongY, once, patterned, rectangle}
 use Rattle.model.specs.Circles.{circle}
 use Rattle.model.specs.Copies.{rectangleOf, copyDots, copy}
 use Rattle.model.specs.Glyphs.{heightOf, widthOf, glyphDots, passed, string}
@@ -23,6 +23,7 @@ use Rattle.model.proofs.OutlineLaws.{once-length}
 use Rattle.model.proofs.CircleLaws.{circle-length}
 use Rattle.coordinates.proofs.SignedLaws.{natAbs-coord, natAbs-negate, index-coord}
 use Rattle.canvas.proofs.CanvasLaws.{listed-length, joined-length}
+use Rattle.draw_lines.proofs.SegmentLaws.{segmentDots-few}
 use Rattle.perform.specs.Performing.{mostDots}
 
 -- ## Lists
@@ -35,33 +36,27 @@ le-then h k = omega arith
 
 -- ## Lines
 
-lineDots-length : (pen : Pen) (p : Place) (dx dy : ℤ) → length (lineDots pen p dx dy) ≡ suc (major dx dy)
-unfolding lineDots
-lineDots-length pen p dx dy = listed-length 0 (suc (major dx dy)) _
-
-lineDots-few : (pen : Pen) (p : Place) (dx dy : ℤ) → natAbs dx ≤ 32768 → natAbs dy ≤ 32768 → length (lineDots pen p dx dy) ≤ 32769
-lineDots-few pen p dx dy h k = omega (arith, lineDots-length pen p dx dy)
-
 pub point-few : (pen : Pen) (p : Point) → length (pointAt pen p .dots) ≤ mostDots
 unfolding pointAt
 point-few pen p = omega arith
 
 pub line-few : (pen : Pen) (p : Point) (dx dy : ℕ) → length (line pen p (coord dx) (coord dy) .dots) ≤ mostDots
 unfolding line
-line-few pen p dx dy = omega (arith, lineDots-few pen (place p) (coord dx) (coord dy) (natAbs-coord dx) (natAbs-coord dy))
+line-few pen p dx dy = omega (arith, segmentDots-few pen (place p) (coord dx) (coord dy) 0 0 (natAbs-coord dx) (natAbs-coord dy))
 
--- so many lines
-polyline-length : (pen : Pen) (i n : ℕ) (f : ℕ → Pair) (p : Point) → ((k : ℕ) → natAbs (f k .dx) ≤ 32768) → ((k : ℕ) → natAbs (f k .dy) ≤ 32768)
-    → length (polyline pen p (listed i n f) .dots) ≤ n * 32769
-unfolding polyline listed
-polyline-length pen i zero f p h k = omega arith
-polyline-length pen i (suc n) f p h k =
+-- so many segments
+segments-length : (pen : Pen) (first index i n : ℕ) (f : ℕ → Pair) (p : Point) → ((k : ℕ) → natAbs (f k .dx) ≤ 32768)
+    → ((k : ℕ) → natAbs (f k .dy) ≤ 32768) → length (segments pen p first index (listed i n f) .dots) ≤ n * 32769
+unfolding segments listed
+segments-length pen first index i zero f p h k = omega arith
+segments-length pen first index i (suc n) f p h k =
     let q = moved p (f i .dx) (f i .dy) in
+    let next = index + pixelsFrom first (f i .dx) (f i .dy) in
     omega (
       arith,
-      length-append (lineDots pen (place p) (f i .dx) (f i .dy)) (polyline pen q (listed (suc i) n f) .dots),
-      lineDots-few pen (place p) (f i .dx) (f i .dy) (h i) (k i),
-      polyline-length pen (suc i) n f q h k,
+      length-append (segmentDots pen (place p) (f i .dx) (f i .dy) first index) (segments pen q 1 next (listed (suc i) n f) .dots),
+      segmentDots-few pen (place p) (f i .dx) (f i .dy) first index (h i) (k i),
+      segments-length pen 1 next (suc i) n f q h k,
     )
 
 scanLines-length : (pen : Pen) (i n : ℕ) (f : ℕ → Triple) (p : Point) → ((k : ℕ) → natAbs (f k .len) ≤ 32768)
@@ -73,15 +68,15 @@ scanLines-length pen i (suc n) f p h =
     omega (
       arith,
       length-append (lineDots pen (place q) (f i .len) (pos 0)) (scanLines pen q (listed (suc i) n f) .dots),
-      lineDots-few pen (place q) (f i .len) (pos 0) (h i) (omega arith),
+      segmentDots-few pen (place q) (f i .len) (pos 0) 0 0 (h i) (omega arith),
       scanLines-length pen (suc i) n f q h,
     )
 
 module _ (pen : Pen) (p : Point) (store : List ℕ) (a n : ℕ) (h : n ≤ 65535) where
   pub polyline-few : length (polyline pen p (pairsAt store a n) .dots) ≤ mostDots
-  unfolding pairsAt
+  unfolding pairsAt polyline
   polyline-few =
-      le-then (polyline-length pen 0 n _ p (λ k. natAbs-coord (wordAt store (a + 4 * k))) (λ k. natAbs-coord (wordAt store (a + 4 * k + 2))))
+      le-then (segments-length pen 0 0 0 n _ p (λ k. natAbs-coord (wordAt store (a + 4 * k))) (λ k. natAbs-coord (wordAt store (a + 4 * k + 2))))
       (mul-le-mul-right 32769 h)
 
   pub scanLines-few : length (scanLines pen p (triplesAt store a n) .dots) ≤ mostDots

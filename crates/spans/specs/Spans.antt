@@ -3,7 +3,7 @@
 use mathlib.Core.Path.{_≡_}
 use mathlib.Core.Bool.{Bool, true, false, cond, _&&_}
 use mathlib.Core.List.{List}
-use Prim.Native.Nat.{ℕ, _+_, _-_, _%_, _≤_, _<_}
+use Prim.Native.Nat.{ℕ, _+_, _-_, _%_, _^_, _≤_, _<_}
 use lib.Dec.{leb, ltb}
 use lib.IntN.{_+ℤ_}
 use Rattle.model.specs.Ranges.{listed}
@@ -34,12 +34,16 @@ spanDots pen s = listed 0 (s .count) (spanDot pen s)
 abbrev pub longestSpan : ℕ
 longestSpan = 32769
 
+-- pattern indexes stay below this: no POLYLINE has more than 65,535 × 32,769 pixels
+abbrev pub indexEnd : ℕ
+indexEnd = 2 ^ 32
+
 -- the numbers of a span are small
 pub record Bounded (s : Span) : Type 0 where
   pub x : s .x < 262144
   pub y : s .y < 262144
   pub count : s .count ≤ longestSpan
-  pub index : s .index < 262144
+  pub index : s .index < indexEnd
 
 -- a place that "lies in bitmap and clip" (01, "Pixels")
 abbrev pub lies : Surface → Clip → Place → Bool

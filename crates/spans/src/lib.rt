@@ -9,7 +9,7 @@ ghost use Rattle.raster.specs.Operations.{truthOf};
 ghost use Rattle.canvas.specs.Canvas.{canvas, countEnd, Painted};
 ghost use Rattle.canvas.specs.Targets.{Ready};
 ghost use Rattle.strips.specs.Strokes.{shown, patternOn};
-ghost use Rattle.spans.specs.Spans.{Bounded, EdgesOf, Strung, longestSpan, spanDots};
+ghost use Rattle.spans.specs.Spans.{Bounded, EdgesOf, Strung, indexEnd, longestSpan, spanDots};
 ghost use Rattle.spans.specs.Spans.{Reached, leftmostOf, phaseOf, spanChanged};
 ghost use Rattle.spans.specs.Examples.{Worked};
 use canvas::Target;
@@ -79,7 +79,7 @@ fn leftmost(s: Span, e: Edges) -> usize
 
 // The pattern's index at the first column of the row, where the visible part begins at column c of it.
 fn phase_of(s: Span, e: Edges, c: usize) -> usize
-    requires { ⌜ (s .index < 262144) × (e .first ≤ longestSpan) × (0 < e .second) × (e .second ≤ longestSpan) ⌝ }
+    requires { ⌜ (s .index < indexEnd) × (e .first ≤ longestSpan) × (0 < e .second) × (e .second ≤ longestSpan) ⌝ }
     ensures { λ r. ⌜ (r ≡ phaseOf s e c) × (r < 16) ⌝ }
 {
     if s.left {

@@ -6,7 +6,7 @@ use crate::words::bytes_in_rows;
 /// A stretch of the store with so many characters, pairs or triples. For a
 /// string, `offset` is where the offset word of its first character stands and
 /// `last_row` where the last word of that character's glyph does.
-#[derive(Clone, Copy)]
+#[derive(Clone, Copy, Default)]
 pub struct Stretch {
     pub address: u32,
     pub count: u16,
@@ -56,6 +56,7 @@ pub struct Data {
     pub bad_word_strings: Vec<Stretch>,
     pub bad_byte_strings: Vec<Stretch>,
     pub pairs: Vec<Stretch>,
+    pub far_pairs: Stretch,
     pub triples: Vec<Stretch>,
 }
 
@@ -71,16 +72,20 @@ impl Data {
             bad_word_strings: Vec::new(),
             bad_byte_strings: Vec::new(),
             pairs: Vec::new(),
+            far_pairs: Stretch::default(),
             triples: Vec::new(),
         };
         let glyphs = data.add_font(dice);
         data.add_strings(dice, &glyphs);
         for _ in 0..dice.between(1, 2) {
-            let pairs = data.add_array(dice, 2, width, height);
+            let pairs = some_pairs(dice, width, height);
+            let pairs = data.add_array(&pairs);
             data.pairs.push(pairs);
-            let triples = data.add_array(dice, 3, width, height);
+            let triples = some_triples(dice, width, height);
+            let triples = data.add_array(&triples);
             data.triples.push(triples);
         }
+        data.far_pairs = data.add_array(&far_pairs(dice, width, height));
         data.even();
         data
     }
@@ -213,27 +218,65 @@ impl Data {
         self.even();
     }
 
-    /// An array of pairs or triples of offsets, mostly small.
-    fn add_array(&mut self, dice: &mut Dice, group: usize, width: i64, height: i64) -> Stretch {
+    /// An array of pairs or triples.
+    fn add_array<const GROUP: usize>(&mut self, groups: &[[i64; GROUP]]) -> Stretch {
         let address = self.here();
-        let count = dice.between(1, 4) as u16;
-        for _ in 0..count {
-            for part in 0..group {
-                let size = if part == 1 { height } else { width };
-                let value = match dice.weighted(&[80, 14, 4, 2]) {
-                    0 => dice.between(-size / 2, size / 2),
-                    1 => dice.between(-size, size),
-                    2 => dice.between(-300, 300),
-                    _ => dice.pick(&[-32768, 32767, -32767, 20000]),
-                };
-                self.add_word(value as u16);
-            }
+        for value in groups.iter().flatten() {
+            self.add_word(*value as u16);
         }
         Stretch {
             address,
-            count,
-            offset: 0,
-            last_row: 0,
+            count: groups.len() as u16,
+            ..Stretch::default()
         }
     }
+}
+
+/// An offset, mostly small.
+fn offset(dice: &mut Dice, size: i64) -> i64 {
+    match dice.weighted(&[80, 14, 4, 2]) {
+        0 => dice.between(-size / 2, size / 2),
+        1 => dice.between(-size, size),
+        2 => dice.between(-300, 300),
+        _ => dice.pick(&[-32768, 32767, -32767, 20000]),
+    }
+}
+
+fn some_triples(dice: &mut Dice, width: i64, height: i64) -> Vec<[i64; 3]> {
+    (0..dice.between(1, 4))
+        .map(|_| [width, height, width].map(|size| offset(dice, size)))
+        .collect()
+}
+
+/// Pairs, some of them (0,0). Half the time a last one leads back to the start.
+fn some_pairs(dice: &mut Dice, width: i64, height: i64) -> Vec<[i64; 2]> {
+    let mut pairs = Vec::new();
+    let (mut x, mut y) = (0, 0);
+    for _ in 0..dice.between(1, 4) {
+        let pair = if dice.chance(15) {
+            [0, 0]
+        } else {
+            [width, height].map(|size| offset(dice, size))
+        };
+        (x, y) = (x + pair[0], y + pair[1]);
+        pairs.push(pair);
+    }
+    if dice.chance(50) {
+        pairs.push([-x, -y]);
+    }
+    pairs
+}
+
+/// Two pairs that lead around all positions to one near the start, and a third
+/// from there.
+fn far_pairs(dice: &mut Dice, width: i64, height: i64) -> Vec<[i64; 2]> {
+    let across = dice.chance(50);
+    let size = if across { width } else { height };
+    let back = dice.between(0, size / 2);
+    let around = dice.pick(&[[-32768, back - 32768], [32767, 32767]]);
+    let mut pairs = around
+        .map(|far| if across { [far, 0] } else { [0, far] })
+        .to_vec();
+    pairs.push([width, height].map(|size| offset(dice, size)));
+    pairs
 }

@@ -1,14 +1,14 @@
 //! What random scripts do: how often each command is done, each fault and each
-//! refusal comes.
+//! refusal comes, and what POLYLINEs are like.
 
 use super::script;
 use crate::bitmaps::{Bitmap, PANE_ADDRESS};
 use crate::calls::lend;
 use crate::decode::Command;
 use crate::judge::MOST_WALKED;
-use crate::record::RUNNING;
+use crate::record::{PaneRecord, RUNNING};
 use crate::script::{decimal, hex, lines_of, Language, Session, LARGEST_STORES};
-use crate::step::{step, Outcome};
+use crate::step::{array, step, Outcome};
 use std::collections::BTreeMap;
 
 /// Counts over many scripts.
@@ -21,6 +21,8 @@ pub struct Stats {
     /// Commands done by name, and how many of them changed a pixel or the pick
     /// flag.
     pub commands: BTreeMap<String, (u64, u64)>,
+    /// POLYLINEs that changed a pixel or the pick flag, by what was special.
+    pub polylines: BTreeMap<&'static str, u64>,
     pub faults: BTreeMap<u32, u64>,
     /// Faults by the command's opcode byte.
     pub fault_opcodes: BTreeMap<(u32, u8), u64>,
@@ -135,14 +137,24 @@ impl Stats {
             let (screen, stores) = (copy.screen.clone(), copy.stores.clone());
             let mut lent = lend(console, &mut copy.screen, &mut copy.stores, pane as usize);
             let (flag, pointer) = (lent.record.pick_flag, lent.record.pointer);
+            let from = (lent.record.x, lent.record.y);
             let active = lent.record.bitmap;
             let byte_mode = lent.record.font.is_some_and(|font| font.byte_mode);
             let outcome = step(&mut lent);
             let picked = !flag && lent.record.pick_flag;
             let opcode = lent.store.get(pointer as usize + 1).copied().unwrap_or(0);
+            let special = match outcome {
+                Outcome::Done(Command::Polyline { address, count }) => {
+                    special_of(lent.record, from, &array(&lent, address, count))
+                }
+                _ => Vec::new(),
+            };
             match outcome {
                 Outcome::Done(command) => {
                     let changed = picked || copy.screen != screen || copy.stores != stores;
+                    for name in special.into_iter().filter(|_| changed) {
+                        *self.polylines.entry(name).or_default() += 1;
+                    }
                     let entry = self
                         .commands
                         .entry(kind(&command, active, byte_mode))
@@ -209,6 +221,10 @@ impl Stats {
         for (name, (count, changed)) in &self.commands {
             text.push(format!("  {name}: {count}, {changed}"));
         }
+        text.push("POLYLINEs that changed a pixel or set the pick flag".to_string());
+        for (name, count) in &self.polylines {
+            text.push(format!("  {name}: {count}"));
+        }
         text.push("fault: times, by opcode".to_string());
         for (number, count) in &self.faults {
             let opcodes: Vec<String> = self
@@ -249,6 +265,52 @@ fn peeked(session: &Session, line: &[u8]) -> Option<usize> {
     };
     let row = session.rows.get(decimal(pane)? as usize)?;
     Some((row.store_start + hex(address)?) as usize)
+}
+
+/// What is special about a POLYLINE of these pairs, done from a position.
+fn special_of(record: &PaneRecord, from: (i16, i16), pairs: &[[i64; 2]]) -> Vec<&'static str> {
+    let [first, later @ ..] = pairs else {
+        return Vec::new();
+    };
+    let dashed = !matches!(record.pattern, 0 | 0xFFFF);
+    let closed = (0..2).all(|axis| pairs.iter().map(|pair| pair[axis]).sum::<i64>() == 0);
+    let closed = closed && !later.is_empty();
+
+    // Which places where segments start and end are in the clip, and whether
+    // the position wrapped to a joint there.
+    let mut places = Vec::new();
+    let mut wrapped = false;
+    let mut walker = record.clone();
+    (walker.x, walker.y) = from;
+    let mut unwrapped = walker.position();
+    for [dx, dy] in pairs {
+        let (x, y) = walker.position();
+        let inside = record.clip.holds(x, y);
+        places.push(inside);
+        wrapped |= inside && (x, y) != unwrapped;
+        unwrapped = (x + dx, y + dy);
+        walker.move_by(*dx, *dy);
+    }
+    let (x, y) = walker.position();
+    places.push(record.clip.holds(x, y));
+    let mut rest = places.iter().skip_while(|inside| !**inside);
+    let returned = rest.any(|inside| !inside) && rest.any(|inside| *inside);
+
+    let mut found = Vec::new();
+    for (name, is_so) in [
+        ("dashed, 3 segments or more", dashed && pairs.len() >= 3),
+        ("first segment of length 0", *first == [0, 0]),
+        ("later segment of length 0", later.contains(&[0, 0])),
+        ("closed", closed),
+        ("closed under exclusive or", closed && record.operation == 6),
+        ("joint outside the clip between two places in it", returned),
+        ("position wrapped to a joint in the clip", wrapped),
+    ] {
+        if is_so {
+            found.push(name);
+        }
+    }
+    found
 }
 
 /// A command's name; for a drawing command also where it draws, and how.

@@ -6,13 +6,12 @@ use Prim.Native.Nat.{_+_, _-_, _*_, _≤_}
 use native.Mathlib.Omega.{arith}
 use borrow.Author.Needs.{needs}
 use lib.ListN.{length}
-use Rattle.model.specs.Coordinates.{place}
 use Rattle.model.specs.Lines.{triplesAt, scanLines}
 use Rattle.canvas.specs.Canvas.{canvas}
 use Rattle.canvas.proofs.LoopLaws.{Underway, underway-ready, underway-word}
-use Rattle.draw_lines.specs.Segments.{longestLine}
+use Rattle.draw_lines.specs.Segments.{longestLine, wholeLine}
 use Rattle.canvas.proofs.ReachLaws.{reach-room}
-use Rattle.draw_arrays.proofs.ArrayLaws.{underway-line, itemsLeft, items-first, items-last, tripleAt, triple-same, scanLines-next}
+use Rattle.draw_arrays.proofs.ArrayLaws.{underway-segment, itemsLeft, items-first, items-last, tripleAt, triple-same, scanLines-next}
 use Rattle.draw_arrays.proofs.scan_lines.Statement.{statement}
 use Rattle.draw_arrays.proofs.scan_lines.Tie as tie
 
@@ -58,8 +57,8 @@ loop-again c =
     let at = a .array + 6 * l .loop .k in
     let same = underway-word (l .loop .inv .0) (entry l .pre .2) in
     let read = triple-same (l .loop .store) (a .store .now) at (λ j lo hi. same j (omega arith) (omega arith)) in (
-      underway-line (l .loop .inv .0) (entry l .pre .0) (l .loop .inv .1) (g .loop-test .taken) _
-          (place (s .scan .result .position)) (r .triple-at .result .len) 0
+      underway-segment (l .loop .inv .0) (entry l .pre .0) (l .loop .inv .1) (g .loop-test .taken) _
+          (s .scan .result .position) (wholeLine (r .triple-at .result .len) 0)
           (scanLines-next (a .t .pen) (a .store .now) (a .array) (a .n) (l .loop .k) (l .loop .d .position) _ (r .triple-at .result) (g .loop-test .taken)
           (r .triple-at .ensures ∙ read) (s .scan .ensures .position))
           (s .scan .ensures),

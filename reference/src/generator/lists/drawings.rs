@@ -2,7 +2,7 @@
 
 use super::numbers::{near, offset, split};
 use super::{List, Plan};
-use crate::generator::data::Spot;
+use crate::generator::data::{Spot, Stretch};
 use crate::generator::dice::Dice;
 use crate::opcodes;
 
@@ -27,7 +27,7 @@ impl Plan {
     /// A drawing command, half the time at a place of its own.
     pub fn draw(&mut self, dice: &mut Dice, list: &mut List) {
         let (width, height, _) = self.size();
-        if dice.chance(2) {
+        if dice.chance(3) {
             self.draw_far(dice, list);
             return;
         }
@@ -42,7 +42,7 @@ impl Plan {
     pub fn draw_far(&mut self, dice: &mut Dice, list: &mut List) {
         let (width, height, _) = self.size();
         let (x, y) = (dice.between(0, width - 1), dice.between(0, height - 1));
-        match dice.weighted(&[40, 20, 20, 10, 10]) {
+        match dice.weighted(&[40, 20, 20, 10, 10, 60]) {
             0 => {
                 // The position wraps into the bitmap.
                 let from = -32768 + dice.between(0, x);
@@ -70,9 +70,15 @@ impl Plan {
                 list.add(dice, opcodes::ABS_MOV, &[-32768, y]);
                 list.add(dice, opcodes::CIRCLE, &[32768 - x.max(1)]);
             }
-            _ => {
+            4 => {
                 list.add(dice, opcodes::ABS_MOV, &[x, -32768]);
                 list.add(dice, opcodes::CIRCLE, &[32768 - y.max(1)]);
+            }
+            _ => {
+                // The position wraps between two segments.
+                list.add(dice, opcodes::ABS_MOV, &[x, y]);
+                let pairs = self.data.far_pairs;
+                self.polyline(dice, list, pairs);
             }
         }
     }
@@ -104,29 +110,37 @@ impl Plan {
                 let far = [offset(dice, width), offset(dice, height)];
                 list.add(dice, opcodes::RECT, &far);
             }
+            3 if dice.chance(50) => {
+                let pairs = dice.pick(&self.data.pairs);
+                self.polyline(dice, list, pairs);
+            }
             3 => {
-                let (opcode, arrays) = if dice.chance(50) {
-                    (opcodes::POLYLINE, &self.data.pairs)
-                } else {
-                    (opcodes::SCAN_LINES, &self.data.triples)
-                };
-                let array = dice.pick(arrays);
-                let count = dice.between(1, i64::from(array.count));
-                if dice.chance(5) {
-                    // An empty array is checked for oddness alone.
-                    let anywhere = dice.next() as u32 & 0x3F_FFFE;
-                    let [lower, upper] = split(dice, anywhere);
-                    list.add(dice, opcode, &[lower, upper, 0]);
-                } else {
-                    let [lower, upper] = split(dice, array.address);
-                    list.add(dice, opcode, &[lower, upper, count]);
-                }
+                let triples = dice.pick(&self.data.triples);
+                let count = dice.between(1, i64::from(triples.count));
+                add_lines(dice, list, opcodes::SCAN_LINES, triples.address, count);
             }
             4 => self.copy_within(dice, list),
             5 => self.copy_between(dice, list),
             6 => self.text(dice, list),
             _ => self.circle(dice, list),
         }
+    }
+
+    /// POLYLINE, mostly with all pairs; half the time after a pattern and an
+    /// operation by which its pixels can be told.
+    pub fn polyline(&mut self, dice: &mut Dice, list: &mut List, pairs: Stretch) {
+        if dice.chance(50) {
+            self.texture(dice, list);
+            let code = dice.pick(&[5, 6]);
+            list.add(dice, opcodes::DEF_LOGICAL_OP, &[0xFFFF, code]);
+        }
+        let all = i64::from(pairs.count);
+        let count = if dice.chance(70) {
+            all
+        } else {
+            dice.between(1, all)
+        };
+        add_lines(dice, list, opcodes::POLYLINE, pairs.address, count);
     }
 
     /// CIRCLE, mostly about as large as the bitmap; or one of any size, often
@@ -250,5 +264,18 @@ impl Plan {
         self.define_pane(dice, list);
         self.draw(dice, list);
         list.end(dice);
+    }
+}
+
+/// POLYLINE or SCAN_LINES, now and then of an empty array.
+fn add_lines(dice: &mut Dice, list: &mut List, opcode: u16, address: u32, count: i64) {
+    if dice.chance(5) {
+        // It is checked for oddness alone.
+        let anywhere = dice.next() as u32 & 0x3F_FFFE;
+        let [lower, upper] = split(dice, anywhere);
+        list.add(dice, opcode, &[lower, upper, 0]);
+    } else {
+        let [lower, upper] = split(dice, address);
+        list.add(dice, opcode, &[lower, upper, count]);
     }
 }

@@ -1,4 +1,4 @@
--- `draw_lines::commands::line` meets its contract: the dots of one segment, and the position moved to its far end.
+-- `draw_lines::commands::line` meets its contract: the dots of a whole line, and the position moved to its far end.
 use mathlib.Core.Path.{refl}
 use borrow.Author.Needs.{needs}
 use Rattle.model.specs.Lines.{line}
@@ -9,9 +9,9 @@ returns : tie.Need-returns
 unfolding line
 returns c =
     let d = c .before .before .before .before .before in
-    record { dots = d .segment .ensures; position = c .move-by .ensures; trap = refl }
+    record { dots = rw (d .before .whole-line .ensures .0) at (d .draw-segment .ensures); position = c .move-by .ensures; trap = refl }
 
 pub line-spec : {M : Type 1} → statement M
 line-spec =
     tie.close
-    (tie.spec (λ c κs. search needs) (λ c κs. search needs) (λ c. search needs) (λ c. search needs) returns)
+    (tie.spec (λ c κs. search needs) (λ c κs. search needs) (λ c κs. search needs) (λ c. search needs) (λ c. search needs) returns)

@@ -1,4 +1,4 @@
--- `draw_lines::segments::lone_line` meets its contract: its span has the line's dots.
+-- `draw_lines::segments::lone_line` meets its contract: its span has the segment's dots.
 use mathlib.Core.Path.{ap, _∙_}
 use borrow.Author.Needs.{needs}
 use Rattle.canvas.specs.Canvas.{canvas, paintedAll}
@@ -9,7 +9,7 @@ draw-alone-requires : tie.Need-draw-alone-requires
 draw-alone-requires c κs =
     let l = c .before .before in
     let s = l .before .before .before in
-    (s .pre .0, l .level-span .ensures .bounded, s .pre .1)
+    (s .pre .0, l .level-span .ensures .bounded, s .pre .2)
 
 returns : tie.Need-returns
 returns c =
