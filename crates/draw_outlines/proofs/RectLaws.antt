@@ -16,6 +16,7 @@ use Rattle.model.specs.Pixels.{patternSource}
 use Rattle.model.specs.Dots.{dot}
 use Rattle.model.specs.Lines.{patterned, rectangle}
 use Rattle.model.proofs.OutlineLaws.{once-sides}
+use Rattle.model.proofs.DotLaws.{patterned-listed}
 use Rattle.coordinates.proofs.SignedLaws.{signAs-directed}
 use Rattle.canvas.specs.declared.Course.{Course}
 use Rattle.canvas.specs.declared.Offset.{Offset}
@@ -52,12 +53,6 @@ listed-none : {A : Type 0} (t : Bool) (i n : ℕ) (f : ℕ → A) → cond t [] 
 unfolding listed
 listed-none true i n f = refl
 listed-none false i n f = refl
-
--- places by their numbers take the pattern index of theirs
-patterned-listed : (pen : Pen) (n s : ℕ) (f : ℕ → Place) → patterned pen s (listed s n f) ≡ listed s n (λ i. dot (f i) (patternSource pen i))
-unfolding patterned listed
-patterned-listed pen zero s f = refl
-patterned-listed pen (suc n) s f = ap (λ ds. dot (f s) (patternSource pen s) ∷ ds) (patterned-listed pen n (suc s) f)
 
 -- ## The outline
 
@@ -146,5 +141,5 @@ rectangle-dots pen from dx dy {a = a} {b = b} e ea eb =
     ap (patterned pen 0)
     (once-sides (place from) dx dy ∙ (simp (ea, eb, signAs-directed dx, signAs-directed dy, listed-none))
     ∙ outline-places (courseOf from dx dy) a b)
-    ∙ patterned-listed pen (outlineLength a b) 0 (λ i. placeOn (courseOf from dx dy) (outlineAt a b i))
+    ∙ patterned-listed pen (λ k. k) (λ k. refl) (outlineLength a b) 0 (λ i. placeOn (courseOf from dx dy) (outlineAt a b i))
     ∙ ap (λ (c : Course). listed 0 (outlineLength a b) (outlineDot pen (record { course = c; a = a; b = b }))) (sym e)

@@ -1,5 +1,5 @@
 -- Lists of places and of dots, cut at their last or in the middle: what a loop over them needs.
-use mathlib.Core.Path.{_≡_, ap, _∙_}
+use mathlib.Core.Path.{_≡_, refl, sym, ap, _∙_}
 use mathlib.Core.List.{List, [], _∷_, _++_}
 use Prim.Native.Nat.{ℕ, zero, suc, _+_}
 use native.Mathlib.Omega.{arith}
@@ -21,3 +21,12 @@ unfolding patterned
 patterned-append k i [] m = let e : i ≡ i + 0 = omega arith in ap (λ (j : ℕ). patterned k j m) e
 patterned-append k i (p ∷ l) m = let e : suc i + length l ≡ i + suc (length l) = omega arith in
     ap {B = List Dot} (λ r. dot p (patternSource k i) ∷ r) (patterned-append k (suc i) l m ∙ ap (λ (j : ℕ). patterned k (suc i) l ++ patterned k j m) e)
+
+-- listed places take the indexes that go on with them
+pub patterned-listed : (pen : Pen) (index : ℕ → ℕ) → ((k : ℕ) → index (suc k) ≡ suc (index k)) → (n k : ℕ) (f : ℕ → Place)
+    → patterned pen (index k) (listed k n f) ≡ listed k n (λ i. dot (f i) (patternSource pen (index i)))
+unfolding patterned listed
+patterned-listed pen index e zero k f = refl
+patterned-listed pen index e (suc n) k f =
+    ap {B = List Dot} (λ r. dot (f k) (patternSource pen (index k)) ∷ r)
+    (ap (λ (i : ℕ). patterned pen i (listed (suc k) n f)) (sym (e k)) ∙ patterned-listed pen index e n (suc k) f)

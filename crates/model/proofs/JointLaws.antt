@@ -10,7 +10,7 @@ use Rattle.model.specs.Coordinates.{Place, Point, offset, place, moved}
 use Rattle.model.specs.Pixels.{Pen, patternSource}
 use Rattle.model.specs.Dots.{Dot, dot}
 use Rattle.model.specs.Lines.{Pair, offsetX, offsetY, pixelsFrom, segmentDots, segments, polyline, patterned}
-use Rattle.model.proofs.DotLaws.{patterned-append}
+use Rattle.model.proofs.DotLaws.{patterned-append, patterned-listed}
 
 -- where dots lie
 abbrev places : List Dot → List Place
@@ -20,17 +20,20 @@ module _ (pen : Pen) (index : ℕ) (f : ℕ → Place) where
   abbrev indexed : ℕ → Dot
   indexed k = dot (f k) (patternSource pen (k + index))
 
+  places-listed : (n k : ℕ) → places (listed k n indexed) ≡ listed k n f
+  unfolding listed
+  places-listed zero k = refl
+  places-listed (suc n) k = ap (λ r. f k ∷ r) (places-listed n (suc k))
+
   places-length : (n k : ℕ) → length (places (listed k n indexed)) ≡ n
   unfolding listed
   places-length zero k = refl
   places-length (suc n) k = ap suc (places-length n (suc k))
 
-  indexed-patterned : (n k : ℕ) → listed k n indexed ≡ patterned pen (k + index) (places (listed k n indexed))
-  unfolding listed patterned
-  indexed-patterned zero k = refl
-  indexed-patterned (suc n) k =
-      let e : suc k + index ≡ suc (k + index) = omega arith in
-      ap {B = List Dot} (λ r. indexed k ∷ r) (indexed-patterned n (suc k) ∙ ap (λ (i : ℕ). patterned pen i (places (listed (suc k) n indexed))) e)
+  indexed-patterned : (n : ℕ) → listed 0 n indexed ≡ patterned pen index (places (listed 0 n indexed))
+  indexed-patterned n =
+      sym (patterned-listed pen (λ k. k + index) (λ k. omega arith) n 0 f)
+      ∙ ap₂ (λ (i : ℕ) (l : List Place). patterned pen i l) (zero-add index) (sym (places-listed n 0))
 
 segments-patterned : (pen : Pen) (p : Point) (first index : ℕ) (ms : List Pair)
     → segments pen p first index ms .dots ≡ patterned pen index (places (segments pen p first index ms .dots))
@@ -42,7 +45,7 @@ segments-patterned pen p first index (m ∷ ms) =
     let a = segmentDots pen (place p) (m .dx) (m .dy) first index in
     let b = segments pen (moved p (m .dx) (m .dy)) 1 (index + n) ms .dots in
     ap₂ {C = List Dot} _++_
-    (indexed-patterned pen index f n 0 ∙ ap (λ (i : ℕ). patterned pen i (places a)) (zero-add index))
+    (indexed-patterned pen index f n)
     (segments-patterned pen (moved p (m .dx) (m .dy)) 1 (index + n) ms
     ∙ ap (λ (l : ℕ). patterned pen (index + l) (places b)) (sym (places-length pen index f n 0)))
     ∙ sym (patterned-append pen index (places a) (places b))

@@ -1,4 +1,4 @@
--- Lines (01, "Pixels"): LINE, POINT, POLYLINE, RECT, SCAN_LINES as dots.
+-- Lines (01, "Pixels"; POLYLINE by 02, A.4): LINE, POINT, POLYLINE, RECT, SCAN_LINES as dots.
 use Prim.Native.Nat.{ℕ, suc, _+_, _-_, _*_, _/_, min, max}
 use mathlib.Core.Bool.{Bool, true, false, cond, _||_}
 use mathlib.Core.List.{List, [], _∷_, _++_}
