@@ -17,6 +17,8 @@ pub struct RunReply {
     pub commands: u32,
     pub status: u32,
     pub fault: u32,
+    /// The pixels drawn.
+    pub pixels: u64,
 }
 
 /// What look replies.
@@ -120,7 +122,9 @@ fn check_start(row: &Row, address: u32) -> Result<(), Refusal> {
 
 /// "Run (budget, 32 bits): 4 status isn't 1; else commands done, status,
 /// fault." "While status is 1 and budget is left" one command after another is
-/// done. "A spent budget leaves status 1, even before an end word."
+/// done. "A spent budget leaves status 1, even before an end word." And "run is
+/// to report, besides its commands, the number of pixels drawn in it": the sum
+/// of what its commands drew. "The sum is 64 bits wide" (02, A.5).
 pub fn run(
     console: &mut Console,
     screen: &mut [u8],
@@ -134,15 +138,18 @@ pub fn run(
     }
     let mut lent = lend(console, screen, stores, index);
     let mut commands = 0;
+    let mut sum = 0;
     while lent.record.status == RUNNING && commands < budget {
-        if let Outcome::Done(_) = step(&mut lent) {
+        if let Outcome::Done { pixels, .. } = step(&mut lent) {
             commands += 1;
+            sum += pixels;
         }
     }
     Ok(RunReply {
         commands,
         status: lent.record.status,
         fault: lent.record.fault,
+        pixels: sum,
     })
 }
 

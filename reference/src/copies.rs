@@ -67,8 +67,9 @@ impl Block {
 impl Pane<'_> {
     /// "BIT_BLT copies source (sx,sy) to (sx+dx,sy+dy), both corners in, to the
     /// position, as though all were read first; no pattern." "The position
-    /// becomes (x+dx+spacing, y)".
-    pub fn copy(&mut self, source: &Bitmap, block: Block) {
+    /// becomes (x+dx+spacing, y)". Answers how many pixels were drawn: "a copied
+    /// 0 is drawn".
+    pub fn copy(&mut self, source: &Bitmap, block: Block) -> u64 {
         let (left, top) = (i64::from(block.x), i64::from(block.y));
         let (dx, dy) = (i64::from(block.dx), i64::from(block.dy));
         let mut values = Vec::new();
@@ -79,12 +80,14 @@ impl Pane<'_> {
         }
         let (x, y) = self.record.position();
         let mut value = values.into_iter();
+        let mut drawn = 0;
         for j in 0..=dy {
             for i in 0..=dx {
-                self.draw(x + i, y + j, Source::Copied(value.next().unwrap_or(0)));
+                drawn += self.draw(x + i, y + j, Source::Copied(value.next().unwrap_or(0)));
             }
         }
         let spacing = i64::from(self.record.spacing);
         self.record.move_by(dx + spacing, 0);
+        drawn
     }
 }

@@ -145,25 +145,29 @@ pub fn string_glyphs(
 }
 
 impl Pane<'_> {
-    /// CHAR, whose string was checked: its glyphs, one after the other.
-    pub fn draw_string(&mut self, transparent: bool, address: u32, count: u16) {
+    /// CHAR, whose string was checked: its glyphs, one after the other. Answers
+    /// how many pixels were drawn.
+    pub fn draw_string(&mut self, transparent: bool, address: u32, count: u16) -> u64 {
         let Some(font) = self.record.font else {
-            return;
+            return 0;
         };
         let glyphs = string_glyphs(self.store, &self.record.bitmap, font, address, count);
-        for glyph in glyphs.unwrap_or_default() {
-            self.draw_glyph(&glyph, transparent);
-        }
+        let glyphs = glyphs.unwrap_or_default().into_iter();
+        glyphs
+            .map(|glyph| self.draw_glyph(&glyph, transparent))
+            .sum()
     }
 
     /// Draws one character at the position and moves on. "Unless S, the
-    /// position moves along the path"; "T sets the trap flag".
-    fn draw_glyph(&mut self, glyph: &Glyph, transparent: bool) {
+    /// position moves along the path"; "T sets the trap flag". Answers how many
+    /// pixels were drawn.
+    fn draw_glyph(&mut self, glyph: &Glyph, transparent: bool) -> u64 {
         let (x, y) = self.record.position();
+        let mut drawn = 0;
         for j in 0..glyph.height {
             for i in 0..glyph.width {
                 let (px, py) = cell_pixel(x, y, i, j, self.record.rotation);
-                self.draw_bit(px, py, glyph.cell(i, j), transparent);
+                drawn += self.draw_bit(px, py, glyph.cell(i, j), transparent);
             }
         }
         if glyph.trap {
@@ -180,5 +184,6 @@ impl Pane<'_> {
             );
             self.record.move_by(dx, dy);
         }
+        drawn
     }
 }

@@ -156,17 +156,20 @@ impl Pane<'_> {
     /// lies in bitmap and clip". "In pick mode no pixel changes; the pick flag
     /// becomes 1 if some pixel would have been drawn, whatever mask and
     /// operation."
-    pub fn draw(&mut self, x: i64, y: i64, source: Source) {
+    ///
+    /// Answers how many pixels were drawn, one or none, "pick mode counting
+    /// none" (02, A.5). One whose bits all stay, by mask or operation, is drawn.
+    pub fn draw(&mut self, x: i64, y: i64, source: Source) -> u64 {
         let bitmap = self.record.bitmap;
         if !bitmap.holds(x, y) || !self.record.clip.holds(x, y) {
-            return;
+            return 0;
         }
         if self.record.pick_mode {
             self.record.pick_flag = true;
-            return;
+            return 0;
         }
         let Some(spot) = self.frame.spot(&bitmap, x, y) else {
-            return;
+            return 0;
         };
         let buffer: &mut [u8] = if spot.on_screen {
             self.screen
@@ -174,7 +177,7 @@ impl Pane<'_> {
             self.store
         };
         let Some(old) = word_at(buffer, spot.address) else {
-            return;
+            return 0;
         };
         let source = match source {
             Source::Colour(colour) => colour,
@@ -183,32 +186,36 @@ impl Pane<'_> {
         let chosen = chosen_bits(spot.bits, spot.shift);
         let new = combine(self.record.operation, chosen, self.record.mask, source, old);
         set_word(buffer, spot.address, new);
+        1
     }
 
     /// "A pattern bit 1 gives foreground, 0 background if opaque, none if
-    /// transparent." The bits of a character act so too.
-    pub fn draw_bit(&mut self, x: i64, y: i64, bit: bool, transparent: bool) {
+    /// transparent." The bits of a character act so too. Answers how many pixels
+    /// were drawn.
+    pub fn draw_bit(&mut self, x: i64, y: i64, bit: bool, transparent: bool) -> u64 {
         if bit {
-            self.draw(x, y, Source::Colour(self.record.foreground));
+            self.draw(x, y, Source::Colour(self.record.foreground))
         } else if !transparent {
-            self.draw(x, y, Source::Colour(self.record.background));
+            self.draw(x, y, Source::Colour(self.record.background))
+        } else {
+            0
         }
     }
 
     /// Draws the pixels in their order, each with the pattern bit of its index,
-    /// "clipped pixels counted".
-    pub fn draw_patterned(&mut self, pixels: impl Iterator<Item = (i64, i64)>) {
+    /// "clipped pixels counted". Answers how many were drawn.
+    pub fn draw_patterned(&mut self, pixels: impl Iterator<Item = (i64, i64)>) -> u64 {
         let (pattern, transparent) = (self.record.pattern, self.record.transparent);
-        for (i, (x, y)) in pixels.enumerate() {
-            self.draw_bit(x, y, pattern_bit(pattern, i), transparent);
-        }
+        pixels
+            .enumerate()
+            .map(|(i, (x, y))| self.draw_bit(x, y, pattern_bit(pattern, i), transparent))
+            .sum()
     }
 
-    /// Draws the pixels "in the foreground, without pattern".
-    pub fn draw_plain(&mut self, pixels: impl Iterator<Item = (i64, i64)>) {
+    /// Draws the pixels "in the foreground, without pattern". Answers how many
+    /// were drawn.
+    pub fn draw_plain(&mut self, pixels: impl Iterator<Item = (i64, i64)>) -> u64 {
         let source = Source::Colour(self.record.foreground);
-        for (x, y) in pixels {
-            self.draw(x, y, source);
-        }
+        pixels.map(|(x, y)| self.draw(x, y, source)).sum()
     }
 }

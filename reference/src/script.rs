@@ -197,13 +197,19 @@ impl Session {
         Some(reply_line('g', reply.map(|()| String::new())))
     }
 
-    /// "r has commands, status, fault".
+    /// "r has commands, status, fault", and the pixels drawn "as the last field"
+    /// (02, A.5).
     fn run(&mut self, pane: u32, budget: u32) -> Option<String> {
         let console = self.console.as_mut()?;
         let reply = calls::run(console, &mut self.screen, &mut self.stores, pane, budget);
         Some(reply_line(
             'r',
-            reply.map(|run| format!(",{},{},{}", run.commands, run.status, run.fault)),
+            reply.map(|run| {
+                format!(
+                    ",{},{},{},{}",
+                    run.commands, run.status, run.fault, run.pixels
+                )
+            }),
         ))
     }
 

@@ -13,8 +13,8 @@ use crate::Fault;
 /// What became of one command.
 #[derive(Clone, Copy, Debug, PartialEq, Eq)]
 pub enum Outcome {
-    /// It was done and counts one.
-    Done(Command),
+    /// It was done and counts one; it drew so many pixels.
+    Done { command: Command, pixels: u64 },
     /// An end word stood there.
     Ended,
     /// It was not done.
@@ -43,9 +43,9 @@ pub fn step(pane: &mut Pane) -> Outcome {
     if let Err(fault) = scene.check(command) {
         return faulted(pane, fault);
     }
-    draw(pane, command);
+    let pixels = draw(pane, command);
     pane.record.pointer = settle(pane.record, command, next);
-    Outcome::Done(command)
+    Outcome::Done { command, pixels }
 }
 
 fn faulted(pane: &mut Pane, fault: Fault) -> Outcome {
@@ -149,43 +149,47 @@ pub fn settle(record: &mut PaneRecord, command: Command, next: u32) -> u32 {
 }
 
 /// Draws what a drawing command draws, and leaves position and flags as it
-/// does; any other command draws nothing. The command was checked.
-fn draw(pane: &mut Pane, command: Command) {
+/// does; any other command draws nothing. The command was checked. "Each drawing
+/// routine reports its own count" of pixels, "a pixel drawn twice counting
+/// twice" (02, A.5).
+fn draw(pane: &mut Pane, command: Command) -> u64 {
     match command {
         // "POINT moves by (dx,dy) and draws one pixel, pattern index 0."
         Command::Point { dx, dy } => {
             pane.record.move_by(i64::from(dx), i64::from(dy));
             let position = pane.record.position();
-            pane.draw_patterned(std::iter::once(position));
+            pane.draw_patterned(std::iter::once(position))
         }
         Command::Line { dx, dy } => line(pane, i64::from(dx), i64::from(dy)),
         // "The position stays."
         Command::Rect { dx, dy } => {
             let (x, y) = pane.record.position();
-            pane.draw_patterned(outline_pixels(x, y, i64::from(dx), i64::from(dy)));
+            pane.draw_patterned(outline_pixels(x, y, i64::from(dx), i64::from(dy)))
         }
         // "CIRCLE … centred on the position, with the position unchanged."
         Command::Circle { radius } => {
             let (x, y) = pane.record.position();
-            pane.draw_plain(circle_pixels(x, y, i64::from(radius)));
+            pane.draw_plain(circle_pixels(x, y, i64::from(radius)))
         }
         Command::Polyline { address, count } => {
             let pairs = array(pane, address, count);
-            polyline(pane, &pairs);
+            polyline(pane, &pairs)
         }
         // "SCAN_LINES: each triple dx, dy, length moves by (dx,dy) and draws a
         // horizontal LINE by length; the position stays at that line's start."
         // And it "still restarts at each run" (02, A.4).
         Command::ScanLines { address, count } => {
+            let mut drawn = 0;
             for [dx, dy, length] in array(pane, address, count) {
                 pane.record.move_by(dx, dy);
                 let (x, y) = pane.record.position();
-                pane.draw_patterned(line_pixels(x, y, length, 0));
+                drawn += pane.draw_patterned(line_pixels(x, y, length, 0));
             }
+            drawn
         }
         Command::BitBlt { block } => {
             let active = pane.record.bitmap;
-            pane.copy(&active, block);
+            pane.copy(&active, block)
         }
         // "BIT_BLT_M does so from the bitmap it names, at the active depth."
         Command::BitBltM {
@@ -195,34 +199,34 @@ fn draw(pane: &mut Pane, command: Command) {
             block,
         } => {
             let bits = pane.record.bitmap.bits();
-            pane.copy(&Bitmap::named(address, xmax, ymax, bits), block);
+            pane.copy(&Bitmap::named(address, xmax, ymax, bits), block)
         }
         Command::Char {
             transparent,
             address,
             count,
         } => pane.draw_string(transparent, address, count),
-        _ => {}
+        _ => 0,
     }
 }
 
 /// Draws a LINE. "The position ends at the far end."
-fn line(pane: &mut Pane, dx: i64, dy: i64) {
+fn line(pane: &mut Pane, dx: i64, dy: i64) -> u64 {
     let (x, y) = pane.record.position();
-    pane.draw_patterned(line_pixels(x, y, dx, dy));
     pane.record.move_by(dx, dy);
+    pane.draw_patterned(line_pixels(x, y, dx, dy))
 }
 
 /// Draws a POLYLINE: each segment starts at the position that the one before it
 /// left, wrapped or not.
-fn polyline(pane: &mut Pane, pairs: &[[i64; 2]]) {
+fn polyline(pane: &mut Pane, pairs: &[[i64; 2]]) -> u64 {
     let mut segments = Vec::new();
     for &[dx, dy] in pairs {
         let (x, y) = pane.record.position();
         segments.push(Segment { x, y, dx, dy });
         pane.record.move_by(dx, dy);
     }
-    pane.draw_patterned(polyline_pixels(segments));
+    pane.draw_patterned(polyline_pixels(segments))
 }
 
 /// The array of a POLYLINE or SCAN_LINES: so many groups of signed words, all

@@ -60,10 +60,14 @@ fn met_by_running(bench: &Bench, pane: u32, address: u32) -> Verdict {
         match outcome {
             Outcome::Ended => return clean(commands),
             _ if commands == 4096 => return found(32, pointer),
-            Outcome::Done(Command::Link { .. }) => return found(31, pointer),
-            Outcome::Done(Command::DefBitmap { address, .. }) if address != PANE_ADDRESS => {
-                return found(31, pointer)
-            }
+            Outcome::Done {
+                command: Command::Link { .. },
+                ..
+            } => return found(31, pointer),
+            Outcome::Done {
+                command: Command::DefBitmap { address, .. },
+                ..
+            } if address != PANE_ADDRESS => return found(31, pointer),
             // 31 comes before DEF_BITMAP's own fault, which is 22.
             Outcome::Faulted(fault) => {
                 let elsewhere = fault.0 == 22
@@ -71,7 +75,7 @@ fn met_by_running(bench: &Bench, pane: u32, address: u32) -> Verdict {
                     && address_of(words[1], words[2]) != 0x20_0000;
                 return found(if elsewhere { 31 } else { fault.0 }, pointer);
             }
-            Outcome::Done(_) => commands += 1,
+            Outcome::Done { .. } => commands += 1,
         }
     }
 }

@@ -180,6 +180,30 @@ fn random_scripts_draw_polylines() {
     }
 }
 
+/// Their runs would report other pixels by each of these wrong rules, in one of
+/// four scripts at least.
+#[test]
+fn random_scripts_tell_wrong_pixels() {
+    let stats = Stats::of(Language::Panes, 160);
+    for rule in [
+        "pick mode counted",
+        "a drawing that faults counted as one pixel",
+        "nothing counted if the run faults",
+        "the last command's count alone",
+        "places that a command draws twice counted once",
+        "places that a run draws twice counted once",
+        "pixels outside the clip counted",
+        "LINE's pixels outside the bitmap counted",
+        "0s under transparency counted",
+        "pixels that keep their value not counted",
+        "pixels of a bitmap in the store not counted",
+        "runs counted on until the next start",
+    ] {
+        let scripts = stats.wrong_pixels.get(rule);
+        assert!(scripts.is_some_and(|scripts| *scripts >= 40), "{rule}");
+    }
+}
+
 /// Those of `calls` peek and clear well, and meet their refusals; bytes that
 /// were drawn are among those peeked.
 #[test]

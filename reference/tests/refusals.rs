@@ -505,7 +505,8 @@ fn refusal_4_run() {
         Ok(RunReply {
             commands: 0,
             status: 1,
-            fault: 0
+            fault: 0,
+            pixels: 0
         })
     );
     assert_eq!(
@@ -513,7 +514,8 @@ fn refusal_4_run() {
         Ok(RunReply {
             commands: 0,
             status: 2,
-            fault: 0
+            fault: 0,
+            pixels: 0
         })
     );
 }

@@ -37,7 +37,7 @@ fn has_letter_of_calls(script: &[u8]) -> bool {
 fn the_papers_example() {
     let script =
         "s,16,2,1\np,0,0,8,2,32\no\nw,0,0,003d010000000100\ng,0,0\nr,0,5\nl,0\nx,0,3,1\ng,1,0\n";
-    let replies = "o,0\nw,0\ng,0\nr,0,1,2,0\nl,0,2,0,6,0,0,0,0\nx,0,0\ng,1\n";
+    let replies = "o,0\nw,0\ng,0\nr,0,1,2,0,0\nl,0,2,0,6,0,0,0,0\nx,0,0\ng,1\n";
     assert_eq!(answer(Language::Panes, script.as_bytes()), replies);
 }
 

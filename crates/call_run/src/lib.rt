@@ -31,7 +31,7 @@ fn run_refusal(pane: Pane) -> u8
     REFUSE_STATUS
 }
 
-// Commands done, status, fault.
+// Commands done, status, fault, pixels drawn.
 fn ran(s: Finished) -> Reply
     ensures { λ r. ⌜ r ≡ ranReply s ⌝ }
 {
@@ -39,12 +39,13 @@ fn ran(s: Finished) -> Reply
         commands: s.count,
         status: s.pane.progress.status,
         fault: s.pane.progress.fault,
+        pixels: s.paint,
     })
 }
 
 // Does at most so many commands of the pane with a number; refused 4 if its status isn't 1. Answers the
-// commands done, the status and the fault. The pane's own part of the stores is lent on, and nothing else of
-// it.
+// commands done, the status, the fault and the pixels drawn. The pane's own part of the stores is lent on, and
+// nothing else of it.
 pub fn run(
     screen: &mut [u8],
     stores: &mut [u8],

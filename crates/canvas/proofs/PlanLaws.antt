@@ -1,5 +1,5 @@
 -- What model's plan of a drawing says, dot by dot: its dots painted on the pane's target.
-use mathlib.Core.Path.{_≡_, refl, sym, _∙_}
+use mathlib.Core.Path.{_≡_, refl, sym, ap, _∙_}
 use mathlib.Core.Bool.{Bool, true, false, cond, not}
 use mathlib.Core.List.{List, []}
 use Prim.Native.Nat.{ℕ}
@@ -15,8 +15,9 @@ use Rattle.model.specs.Pixels.{Change, changes}
 use Rattle.model.specs.Dots.{Drawing, hits}
 use Rattle.model.specs.Faults.{noBitmap}
 use Rattle.model.specs.Effects.{draws}
-use Rattle.model.specs.Steps.{onStore, onScreen, madeBy, drewPane, planOf}
+use Rattle.model.specs.Steps.{onStore, onScreen, madeBy, paintOf, drewPane, planOf}
 use Rattle.model.specs.Runs.{carried}
+use Rattle.model.proofs.PaintLaws.{paint-is}
 use Rattle.canvas.specs.Canvas.{Canvas, canvas, paintedAll}
 use Rattle.canvas.specs.Targets.{targetOf}
 use Rattle.bitmaps.specs.Areas.{isPane}
@@ -50,6 +51,10 @@ module _ (g : Geometry) (r : Row) (p : Pane) (d : Drawing) (screen store : List 
   unfolding canvasOf targetOf
   hits-is = sym (paintedAll-hits (targetOf g r p) (d .dots) (canvas screen store 0) ∙ zero-add _)
 
+  -- pick mode draws none, and else what is visible is drawn
+  drawn-is : paintOf (surfaceOf g r (p .bitmap)) p d ≡ cond (p .flags .picking) 0 (canvasOf g r p d screen store .hits)
+  drawn-is = paint-is (surfaceOf g r (p .bitmap)) p d ∙ ap (cond (p .flags .picking) 0) hits-is
+
   screen-is : changes (paneSurface g r) (onScreen (p .bitmap) (madeBy (surfaceOf g r (p .bitmap)) p d)) screen ≡ canvasOf g r p d screen store .screen
   unfolding canvasOf targetOf madeBy
   screen-is = screen-if g r (p .bitmap) (p .flags .picking) _ screen e ∙ sym (paintedAll-screen (targetOf g r p) (d .dots) (canvas screen store 0))
@@ -61,10 +66,10 @@ module _ (g : Geometry) (r : Row) (p : Pane) (d : Drawing) (screen store : List 
   -- the plan of a drawing carried out is the canvas with the record after it
   pub planned : (next : ℕ) → carried g r (planOf g r p store next (draws d)) screen ≡ record {
     count = 1;
-    hits = canvasOf g r p d screen store .hits;
+    paint = cond (p .flags .picking) 0 (canvasOf g r p d screen store .hits);
     pane = drewPane p next d (canvasOf g r p d screen store .hits);
     screen = canvasOf g r p d screen store .screen;
     store = canvasOf g r p d screen store .store;
   }
   unfolding planOf
-  planned next = λ i. record { count = 1; hits = hits-is i; pane = drewPane p next d (hits-is i); screen = screen-is i; store = store-is i }
+  planned next = λ i. record { count = 1; paint = drawn-is i; pane = drewPane p next d (hits-is i); screen = screen-is i; store = store-is i }

@@ -9,7 +9,7 @@ use Rattle.model.specs.Copies.{seen, copyDots, copy, blockBad}
 use Rattle.model.specs.Commands.{opcodeOf, commandOf, fetch, decode}
 use Rattle.model.specs.Faults.{clipOutside, faultOf}
 use Rattle.model.specs.Effects.{effectOf}
-use Rattle.model.specs.Steps.{madeBy, planOf, attempted, obey, step}
+use Rattle.model.specs.Steps.{madeBy, paintOf, planOf, attempted, obey, step}
 use Rattle.model.specs.Runs.{stepped, follow, runs}
 use Rattle.model.specs.Judge.{barredFault, judgedFault, recordAfter, judgedCommand, met, metLast, listWalk, verdictOf}
 use Rattle.model.specs.Setup.{geometryBad, rectangleBad, storeBad, sharePixel, shareByte, checks, progressBad, paneBad}
@@ -17,10 +17,9 @@ use Rattle.model.specs.Calls.{part, inPart, ownRefusal, onPane, rowOf, recordOf
 use Rattle.isolation.specs.TwoRuns.{after, callsOn, repliesOn, Accepted, SamePixels, storeIn}
 
 unfoldable pub machine : Unit {0}
-unfolding anyBelow listed joined bit num bitAt fieldAt splice putField gridBit placeBit placeShift inside pixels paneSurface surfaceOf paneBitmapBad
-    ruleBroken
+unfolding anyBelow listed joined bit num bitAt fieldAt splice putField gridBit placeBit placeShift inside pixels paneSurface surfaceOf paneBitmapBad ruleBroken
     blend change changes visible hits changesOf segmentDots line seen copyDots copy blockBad opcodeOf commandOf fetch decode clipOutside faultOf effectOf madeBy
-    planOf attempted obey step stepped follow runs barredFault judgedFault recordAfter judgedCommand met metLast listWalk verdictOf geometryBad rectangleBad storeBad sharePixel shareByte checks progressBad paneBad part inPart ownRefusal
-    onPane
-    rowOf recordOf storeOf setupRefusal callChecks refusal withPane accepted exec setUp after callsOn repliesOn Accepted SamePixels storeIn
+    paintOf planOf attempted obey step stepped follow runs barredFault judgedFault recordAfter judgedCommand met metLast listWalk verdictOf geometryBad
+    rectangleBad storeBad sharePixel shareByte checks progressBad paneBad part inPart ownRefusal onPane rowOf recordOf storeOf setupRefusal callChecks refusal
+    withPane accepted exec setUp after callsOn repliesOn Accepted SamePixels storeIn
 machine = tt

@@ -89,11 +89,12 @@ secondCalls =
 -- the replies to pane 0's calls
 abbrev pub replies : List Response
 replies =
-    -- put, start, run: four commands, status 1, fault 0
-    acceptedWith [] ∷ acceptedWith [] ∷ acceptedWith (natural 4 ∷ natural 1 ∷ natural 0 ∷ [])
-    -- start at an odd address, pixel, run: two commands, ended; pixels in and outside the pane, peek past the
-    -- end, run at status 2
-    ∷ refusedWith 3 ∷ acceptedWith (natural 2 ∷ []) ∷ acceptedWith (natural 2 ∷ natural 2 ∷ natural 0 ∷ [])
+    -- put, start, run: four commands, status 1, fault 0, and of LINE's ten pixels two in the pane
+    acceptedWith [] ∷ acceptedWith [] ∷ acceptedWith (natural 4 ∷ natural 1 ∷ natural 0 ∷ natural 2 ∷ [])
+    -- start at an odd address, pixel, run: two commands, ended, two pixels copied; pixels in and outside the
+    -- pane, peek past the end, run at status 2
+    ∷ refusedWith 3 ∷ acceptedWith (natural 2 ∷ [])
+    ∷ acceptedWith (natural 2 ∷ natural 2 ∷ natural 0 ∷ natural 2 ∷ [])
     ∷ acceptedWith (natural 3 ∷ []) ∷ refusedWith 5 ∷ refusedWith 2 ∷ refusedWith 4
     -- look: ended, no fault, pointer 2E hex, position (1,1), no flag
     ∷ acceptedWith (natural 2 ∷ natural 0 ∷ address 0x2E ∷ natural 1 ∷ natural 1 ∷ natural 0 ∷ natural 0 ∷ [])

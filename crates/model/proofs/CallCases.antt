@@ -181,12 +181,13 @@ table =
     ∷ refuses begin (on 0 (start 7)) 3
     ∷ refuses begin (on 0 (start 9)) 3
     -- ## Run: by budget. POINT (2,0) from x = 1 draws pixel 3 of pane 1, screen pixel (12,1); after it the store ends
-    ∷ tells begin (on 1 (run 0)) (pos 0 ∷ pos 0 ∷ pos 1 ∷ pos 0 ∷ [])
-    ∷ leaves (on 1 (run 1)) (pos 0 ∷ pos 1 ∷ pos 1 ∷ pos 0 ∷ []) (state busy (drawing 1 0 6 3) (0b01101100 ∷ 0b10110101 ∷ 0b00001000 ∷ 0b00001111 ∷ []) stores)
-    ∷ leaves (on 1 (run 2)) (pos 0 ∷ pos 1 ∷ pos 3 ∷ pos 21 ∷ []) (state busy (drawing 3 21 6 3) (0b01101100 ∷ 0b10110101 ∷ 0b00001000 ∷ 0b00001111 ∷ [])
-    stores)
-    ∷ leaves (on 1 (run 9)) (pos 0 ∷ pos 1 ∷ pos 3 ∷ pos 21 ∷ []) (state busy (drawing 3 21 6 3) (0b01101100 ∷ 0b10110101 ∷ 0b00001000 ∷ 0b00001111 ∷ [])
-    stores)
+    ∷ tells begin (on 1 (run 0)) (pos 0 ∷ pos 0 ∷ pos 1 ∷ pos 0 ∷ pos 0 ∷ [])
+    ∷ leaves (on 1 (run 1)) (pos 0 ∷ pos 1 ∷ pos 1 ∷ pos 0 ∷ pos 1 ∷ [])
+    (state busy (drawing 1 0 6 3) (0b01101100 ∷ 0b10110101 ∷ 0b00001000 ∷ 0b00001111 ∷ []) stores)
+    ∷ leaves (on 1 (run 2)) (pos 0 ∷ pos 1 ∷ pos 3 ∷ pos 21 ∷ pos 1 ∷ [])
+    (state busy (drawing 3 21 6 3) (0b01101100 ∷ 0b10110101 ∷ 0b00001000 ∷ 0b00001111 ∷ []) stores)
+    ∷ leaves (on 1 (run 9)) (pos 0 ∷ pos 1 ∷ pos 3 ∷ pos 21 ∷ pos 1 ∷ [])
+    (state busy (drawing 3 21 6 3) (0b01101100 ∷ 0b10110101 ∷ 0b00001000 ∷ 0b00001111 ∷ []) stores)
     -- status 3, 0, 2
     ∷ refuses begin (on 0 (run 1)) 4
     ∷ refuses (state asNew busy screen stores) (on 0 (run 0)) 4

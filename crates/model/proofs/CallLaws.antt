@@ -1,5 +1,5 @@
 -- A call on a pane: what it keeps, that its outcome depends only on the pane's record, pixels and store, and when it is refused.
-use mathlib.Core.Path.{_≡_, refl, ap, ap₂, _∙_, subst}
+use mathlib.Core.Path.{_≡_, refl, ap, _∙_, subst}
 use mathlib.Core.List.{List, [], _∷_}
 use Prim.Native.Nat.{ℕ, zero, suc, _+_}
 use native.Mathlib.Omega.{arith}
@@ -89,7 +89,7 @@ module _ (g : Geometry) (r : Row) where
   -- two ends of a run that the pane cannot tell apart
   record SameRan (a b : Finish) : Type 0 where
     count : a .count ≡ b .count
-    hits : a .hits ≡ b .hits
+    paint : a .paint ≡ b .paint
     pane : a .pane ≡ b .pane
     store : a .store ≡ b .store
     shown : pixels (paneSurface g r) (a .screen) ≡ pixels (paneSurface g r) (b .screen)
@@ -105,7 +105,7 @@ module _ (g : Geometry) (r : Row) where
   follow-agree rest ih plan plan′ q s t f h e = subst (λ (z : Plan). SameRan (follow rest (carried g r plan s)) (follow rest (carried g r z t))) q
       (record {
         count = ap (λ (n : ℕ). plan .counted + n) (w .count);
-        hits = ap (λ (n : ℕ). plan .hits + n) (w .hits);
+        paint = ap (λ (n : ℕ). plan .paint + n) (w .paint);
         pane = w .pane;
         store = w .store;
         shown =
@@ -122,13 +122,13 @@ module _ (g : Geometry) (r : Row) where
 
   runs-agree : (n : ℕ) → Steady (λ p s store. runs g r n p s store)
   unfolding runs Steady stepped
-  runs-agree zero p s t store f h e = record { count = refl; hits = refl; pane = refl; store = refl; shown = e }
+  runs-agree zero p s t store f h e = record { count = refl; paint = refl; pane = refl; store = refl; shown = e }
   runs-agree (suc n) p s t store f h e =
       cond-rel SameRan (eqb (p .progress .status) statusRunning) _ (idle p s store) _ (idle p t store)
       (follow-agree (λ p s store. runs g r n p s store) (λ p s t store f h e. runs-agree n p s t store f h e)
       (step g r p (pixels (paneSurface g r) s) store) (step g r p (pixels (paneSurface g r) t) store)
       (ap (λ (see : ℕ → ℕ → ℕ). step g r p see store) e) s t f h e)
-      (record { count = refl; hits = refl; pane = refl; store = refl; shown = e })
+      (record { count = refl; paint = refl; pane = refl; store = refl; shown = e })
 
 -- ## Any accepted call on the pane
 
@@ -176,9 +176,12 @@ module _ (g : Geometry) (r : Row) (p : Pane) where
           go : SameRan g r (runs g r n p s store) (runs g r n p t store) → SameOutcome (ran (runs g r n p s store)) (ran (runs g r n p t store))
           go w = record {
             reply =
-                ap₂ (λ (c : ℕ) (q : Pane). acceptedWith (ranValues (record { commands = c; status = q .progress .status; fault = q .progress .fault })))
-                (w .count)
-                (w .pane);
+                λ i. acceptedWith (ranValues (record {
+                  commands = w .count i;
+                  status = w .pane i .progress .status;
+                  fault = w .pane i .progress .fault;
+                  pixels = w .paint i;
+                }));
             pane = w .pane;
             store = w .store;
             shown = w .shown;

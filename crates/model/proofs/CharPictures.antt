@@ -27,7 +27,7 @@ table =
     0b11111111_11111111 ∷
     0b11111111_11111111 ∷
     0b11111111_11111111 ∷ [])
-    (ended 15 96 (pos 13) (pos 5) 0 0)
+    (ended 15 24 96 (pos 13) (pos 5) 0 0)
     (0b11111111_11111111 ∷
     0b11101111_11111111 ∷
     0b10011101_11111001 ∷
@@ -45,7 +45,7 @@ table =
     (defBitmap thePane 14 3 1 ∷ defColors 0xFFFF 0x0000 ∷ wordFont 0x40 ∷ defSpace 1 ∷ absMov 0 1 ∷ charTransparent 0x38 4 ∷ polyline 0x38 0
     ∷ enterPick ∷ exitPick ∷ halt ∷ [])
     (blank 4)
-    (ended 9 54 (pos 11) (pos 1) 0 1)
+    (ended 9 9 54 (pos 11) (pos 1) 0 1)
     (0b00000000_00000000 ∷
     0b00110101_01100000 ∷
     0b01000000_10000000 ∷
@@ -59,7 +59,7 @@ table =
     (defBitmap thePane 15 7 1 ∷ defColors 0xFFFF 0x0000 ∷ byteFont 0x40 ∷ defSpace 2 ∷ defCharOrient 2 1 ∷ absMov 12 5 ∷ char 0x3B 3 ∷ halt
     ∷ [])
     (blank 8)
-    (ended 7 46 (neg 2) (pos 5) 0 0)
+    (ended 7 28 46 (neg 2) (pos 5) 0 0)
     (0b00000000_00000000 ∷
     0b00000000_00000000 ∷
     0b00001000_00000100 ∷
@@ -76,7 +76,7 @@ table =
     ∷ opaque 0x0000 ∷ absMov 0 1 ∷ (0xA900 ∷ 0x003E ∷ 0x0000 ∷ 0x0001 ∷ []) ∷ halt ∷ [])
     (0b10_10_10_10_10_10_10_10 ∷
     0b10_10_10_10_10_10_10_10 ∷ [])
-    (ended 8 54 (pos 4) (pos 1) 0 0)
+    (ended 8 6 54 (pos 4) (pos 1) 0 0)
     (0b01_11_11_01_10_10_10_10 ∷
     0b10_11_11_10_10_10_10_10 ∷ []))
     -- The largest cell, 16 by 16, cut by the pane on all sides but the left
@@ -85,7 +85,7 @@ table =
     (drawn (screen 16 4 1) (paneRow 2 0 10 4 86)
     (defBitmap thePane 9 3 1 ∷ defColors 0xFFFF 0x0000 ∷ wordFont 0x34 ∷ absMov 1 (minus 2) ∷ char 0x32 1 ∷ halt ∷ [])
     (blank 4)
-    (ended 5 38 (pos 17) (neg 2) 0 0)
+    (ended 5 36 38 (pos 17) (neg 2) 0 0)
     (0b00010000_00000000 ∷
     0b00011000_00000000 ∷
     0b00010100_00000000 ∷
@@ -97,7 +97,7 @@ table =
     (defBitmap thePane 15 7 1 ∷ defColors 0xFFFF 0x0000 ∷ wordFont 0x48 ∷ defClipRect 5 2 8 5 ∷ defCharOrient 1 3 ∷ absMov 7 6 ∷ char 0x44 2
     ∷ halt ∷ [])
     (blank 8)
-    (ended 7 52 (pos 7) (neg 2) 0 0)
+    (ended 7 12 52 (pos 7) (neg 2) 0 0)
     (0b00000000_00000000 ∷
     0b00000000_00000000 ∷
     0b00000111_00000000 ∷
@@ -112,7 +112,7 @@ table =
     (drawn (screen 16 2 1) (paneRow 0 0 16 2 76)
     (defBitmap thePane 15 1 1 ∷ defColors 0xFFFF 0x0000 ∷ wordFont 0x48 ∷ enterPick ∷ charTransparent 0x46 1 ∷ halt ∷ [])
     (blank 2)
-    (ended 5 34 (pos 4) (pos 0) 0 1)
+    (ended 5 0 34 (pos 4) (pos 0) 0 1)
     (blank 2))
     -- The same, opaque: now they count
     ∷ withPieces (piece 0x46 (bytes (0x0000 ∷ [])) ∷
@@ -120,7 +120,7 @@ table =
     (drawn (screen 16 2 1) (paneRow 0 0 16 2 76)
     (defBitmap thePane 15 1 1 ∷ defColors 0xFFFF 0x0000 ∷ wordFont 0x48 ∷ enterPick ∷ char 0x46 1 ∷ halt ∷ [])
     (blank 2)
-    (ended 5 34 (pos 0) (pos 0) 1 0)
+    (ended 5 0 34 (pos 0) (pos 0) 1 0)
     (blank 2))
     -- CHAR on a bitmap in the store, between the list and the string
     ∷ storing (piece 0x48 (bytes (0x0000 ∷ [])) ∷
@@ -129,7 +129,7 @@ table =
     (drawn (screen 16 1 1) (paneRow 0 0 16 1 80)
     (defBitmap 0x40 5 1 4 ∷ defColors 0x1234 0xABCD ∷ wordFont 0x4A ∷ absMov 1 0 ∷ char 0x48 1 ∷ halt ∷ [])
     (blank 1)
-    (ended 5 38 (pos 6) (pos 0) 0 0)
+    (ended 5 10 38 (pos 6) (pos 0) 0 0)
     (blank 1))
     ∷ []
 

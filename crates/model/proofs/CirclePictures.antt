@@ -23,7 +23,7 @@ table =
     (defBitmap thePane 19 6 1 ∷ defColors 0xFFFF 0x0000 ∷ absMov 0 3 ∷ circle 0 ∷ relMov 3 0 ∷ circle 1 ∷ relMov 5 0 ∷ circle 2 ∷ relMov 7 0
     ∷ circle 3 ∷ halt ∷ [])
     (blank 7)
-    (ended 10 58 (pos 15) (pos 3) 0 0)
+    (ended 10 33 58 (pos 15) (pos 3) 0 0)
     (0b00000000_00000011_10000000_00000000 ∷
     0b00000001_11000100_01000000_00000000 ∷
     0b00010010_00101000_00100000_00000000 ∷
@@ -35,7 +35,7 @@ table =
     ∷ drawn (screen 9 9 1) (paneRow 0 0 9 9 40)
     (defBitmap thePane 8 8 1 ∷ defColors 0xFFFF 0x0000 ∷ absMov 4 4 ∷ circle 4 ∷ halt ∷ [])
     (blank 9)
-    (ended 4 28 (pos 4) (pos 4) 0 0)
+    (ended 4 24 28 (pos 4) (pos 4) 0 0)
     (0b00011100_00000000 ∷
     0b01100011_00000000 ∷
     0b01000001_00000000 ∷
@@ -49,7 +49,7 @@ table =
     ∷ drawn (screen 17 17 1) (paneRow 0 0 17 17 40)
     (defBitmap thePane 16 16 1 ∷ defColors 0xFFFF 0x0000 ∷ absMov 8 8 ∷ circle 8 ∷ circle 5 ∷ halt ∷ [])
     (blank 17)
-    (ended 5 32 (pos 8) (pos 8) 0 0)
+    (ended 5 72 32 (pos 8) (pos 8) 0 0)
     (0b00000011_11100000_00000000_00000000 ∷
     0b00001100_00011000_00000000_00000000 ∷
     0b00010000_00000100_00000000_00000000 ∷
@@ -71,7 +71,7 @@ table =
     ∷ drawn (screen 12 8 2) (paneRow 2 1 9 7 48)
     (defBitmap thePane 8 6 2 ∷ defColors 0x6DB6 0x0000 ∷ defClipRect 0 0 6 5 ∷ absMov 3 2 ∷ circle 4 ∷ halt ∷ [])
     (blank 8)
-    (ended 5 38 (pos 3) (pos 2) 0 0)
+    (ended 5 8 38 (pos 3) (pos 2) 0 0)
     (0b00_00_00_00_00_00_00_00_00_00_00_00_00_00_00_00 ∷
     0b00_00_11_00_00_00_00_00_01_00_00_00_00_00_00_00 ∷
     0b00_00_00_00_00_00_00_00_00_00_00_00_00_00_00_00 ∷
@@ -84,7 +84,7 @@ table =
     ∷ drawn (screen 8 5 4) (paneRow 1 0 6 5 48)
     (defBitmap thePane 5 4 4 ∷ defColors 0x1234 0x0000 ∷ absMov (minus 2) (minus 1) ∷ circle 5 ∷ circle 3 ∷ halt ∷ [])
     (blank 5)
-    (ended 5 32 (neg 2) (neg 1) 0 0)
+    (ended 5 7 32 (neg 2) (neg 1) 0 0)
     (0x0030_1000 ∷
     0x0200_1000 ∷
     0x0004_0000 ∷
@@ -94,13 +94,13 @@ table =
     ∷ drawn (screen 16 7 1) (paneRow 0 0 16 7 48)
     (defBitmap thePane 15 6 1 ∷ defColors 0xFFFF 0x0000 ∷ enterPick ∷ defClipRect 5 3 9 4 ∷ absMov 3 3 ∷ circle 3 ∷ halt ∷ [])
     (blank 7)
-    (ended 6 40 (pos 3) (pos 3) 1 0)
+    (ended 6 0 40 (pos 3) (pos 3) 1 0)
     (blank 7)
     -- Pick mode: a circle about the clip has no point in it
     ∷ drawn (screen 16 7 1) (paneRow 0 0 16 7 48)
     (defBitmap thePane 15 6 1 ∷ defColors 0xFFFF 0x0000 ∷ enterPick ∷ defClipRect 2 2 4 4 ∷ absMov 3 3 ∷ circle 3 ∷ halt ∷ [])
     (blank 7)
-    (ended 6 40 (pos 3) (pos 3) 0 0)
+    (ended 6 0 40 (pos 3) (pos 3) 0 0)
     (blank 7)
     -- By XOR a point drawn twice would vanish, as (2,2) of radius 3, its own reflection in the diagonal; at the right a circle of radius 3 comes and goes
     ∷ drawn (screen 16 7 1) (paneRow 0 0 16 7 64)
@@ -113,7 +113,7 @@ table =
     0b11001100_11001100 ∷
     0b11001100_11001100 ∷
     0b11001100_11001100 ∷ [])
-    (ended 9 52 (pos 10) (pos 3) 0 0)
+    (ended 9 60 52 (pos 10) (pos 3) 0 0)
     (0b11110100_11001100 ∷
     0b10001000_10111100 ∷
     0b01001110_01000100 ∷
@@ -129,7 +129,7 @@ table =
     (drawn (screen 4 1 4) (paneRow 0 0 4 1 48)
     (defBitmap 0x20 6 6 2 ∷ defColors 0x6DB6 0x0000 ∷ absMov 3 3 ∷ circle 3 ∷ halt ∷ [])
     (blank 1)
-    (ended 4 28 (pos 3) (pos 3) 0 0)
+    (ended 4 16 28 (pos 3) (pos 3) 0 0)
     (blank 1))
     -- Depth 8: in the foreground under any pattern, transparent or opaque
     ∷ drawn (screen 6 5 8) (paneRow 1 0 5 5 64)
@@ -140,7 +140,7 @@ table =
     0x55_55_55_55_55_55 ∷
     0x55_55_55_55_55_55 ∷
     0x55_55_55_55_55_55 ∷ [])
-    (ended 9 48 (pos 2) (pos 2) 0 0)
+    (ended 9 17 48 (pos 2) (pos 2) 0 0)
     (0x55_55_12_AB_12_55 ∷
     0x55_AB_55_AB_55_AB ∷
     0x55_AB_12_AB_12_AB ∷

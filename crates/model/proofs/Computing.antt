@@ -13,7 +13,7 @@ use Rattle.model.specs.Glyphs.{selector, descriptor, cellBit, rotated, g
 use Rattle.model.specs.Commands.{opcodeOf, commandOf, fetch, decode}
 use Rattle.model.specs.Faults.{clipOutside, arrayBad, stringBad, descriptorsBad, faultOf}
 use Rattle.model.specs.Effects.{effectOf}
-use Rattle.model.specs.Steps.{madeBy, planOf, attempted, obey, step}
+use Rattle.model.specs.Steps.{madeBy, paintOf, planOf, attempted, obey, step}
 use Rattle.model.specs.Runs.{stepped, follow, runs}
 use Rattle.model.specs.Judge.{barredFault, judgedFault, recordAfter, judgedCommand, met, metLast, listWalk, verdictOf}
 use Rattle.model.specs.Setup.{geometryBad, rectangleBad, storeBad, sharePixel, shareByte, checks, progressBad, paneBad}
@@ -30,7 +30,7 @@ figuring = tt
 
 -- and everything else
 unfoldable pub machine : Unit {0}
-unfolding figuring opcodeOf commandOf fetch decode clipOutside arrayBad stringBad descriptorsBad faultOf effectOf madeBy planOf attempted obey step stepped follow
-    runs barredFault judgedFault recordAfter judgedCommand met metLast listWalk verdictOf geometryBad rectangleBad storeBad sharePixel shareByte checks progressBad paneBad part inPart ownRefusal onPane rowOf recordOf storeOf setupRefusal
-    callChecks refusal withPane accepted exec setUp
+unfolding figuring opcodeOf commandOf fetch decode clipOutside arrayBad stringBad descriptorsBad faultOf effectOf madeBy paintOf planOf attempted obey step
+    stepped follow runs barredFault judgedFault recordAfter judgedCommand met metLast listWalk verdictOf geometryBad rectangleBad storeBad sharePixel shareByte
+    checks progressBad paneBad part inPart ownRefusal onPane rowOf recordOf storeOf setupRefusal callChecks refusal withPane accepted exec setUp
 machine = tt

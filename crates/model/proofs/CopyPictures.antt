@@ -17,7 +17,7 @@ table =
     (0x1234_5678 ∷
     0x9ABC_DEF0 ∷
     0x2468_ACE1 ∷ [])
-    (ended 3 28 (pos 6) (pos 1) 0 0)
+    (ended 3 12 28 (pos 6) (pos 1) 0 0)
     (0x1234_5678 ∷
     0x9123_4560 ∷
     0x29AB_CDE1 ∷ [])
@@ -27,7 +27,7 @@ table =
     (0x1234_5678 ∷
     0x9ABC_DEF0 ∷
     0x2468_ACE1 ∷ [])
-    (ended 3 28 (pos 5) (pos 0) 0 0)
+    (ended 3 12 28 (pos 5) (pos 0) 0 0)
     (0xABCD_EF78 ∷
     0x468A_CEF0 ∷
     0x2468_ACE1 ∷ [])
@@ -37,7 +37,7 @@ table =
     (0x1234_5678 ∷
     0x9ABC_DEF0 ∷
     0x2468_ACE1 ∷ [])
-    (ended 3 28 (pos 5) (pos 1) 0 0)
+    (ended 3 12 28 (pos 5) (pos 1) 0 0)
     (0x1234_5678 ∷
     0x3456_78F0 ∷
     0xBCDE_F0E1 ∷ [])
@@ -47,7 +47,7 @@ table =
     (0x1234_5678 ∷
     0x9ABC_DEF0 ∷
     0x2468_ACE1 ∷ [])
-    (ended 4 32 (pos 3) (pos 0) 0 0)
+    (ended 4 10 32 (pos 3) (pos 0) 0 0)
     (0x129A_BCD8 ∷
     0x9A24_68A0 ∷
     0x2468_ACE1 ∷ [])
@@ -55,14 +55,14 @@ table =
     ∷ drawn (screen 8 1 4) (paneRow 0 0 8 1 40)
     (defBitmap thePane 7 0 4 ∷ defSpace 32767 ∷ absMov 32767 0 ∷ bitBlt 0 0 3 0 ∷ halt ∷ [])
     (0x1234_5678 ∷ [])
-    (ended 4 32 (pos 1) (pos 0) 0 0)
+    (ended 4 0 32 (pos 1) (pos 0) 0 0)
     (0x1234_5678 ∷ [])
     -- BIT_BLT of one row right by one, every source read first; then left by one
     ∷ drawn (screen 8 2 4) (paneRow 0 0 8 2 60)
     (defBitmap thePane 7 1 4 ∷ absMov 1 0 ∷ bitBlt 0 0 6 0 ∷ absMov 0 1 ∷ bitBlt 1 1 6 0 ∷ halt ∷ [])
     (0x1234_5678 ∷
     0x1234_5678 ∷ [])
-    (ended 5 44 (pos 6) (pos 1) 0 0)
+    (ended 5 14 44 (pos 6) (pos 1) 0 0)
     (0x1123_4567 ∷
     0x2345_6788 ∷ [])
     -- A copied 0 is drawn, and texture and colours do not matter; the clip cuts the copy, not its source; XOR under a mask
@@ -72,7 +72,7 @@ table =
     (0x0102_0304_0500 ∷
     0x1111_1111_1111 ∷
     0x1111_1111_1111 ∷ [])
-    (ended 9 70 (pos 7) (pos 2) 0 0)
+    (ended 9 8 70 (pos 7) (pos 2) 0 0)
     (0x0102_0304_0500 ∷
     0x1111_0203_1111 ∷
     0x1111_1112_1111 ∷ [])
@@ -87,7 +87,7 @@ table =
     (0b00_01_10_11_00_01_10_11_00_01_10_11_00_00_00_00 ∷
     0b11_10_01_00_11_10_01_00_11_10_01_00_00_00_00_00 ∷
     0b00_00_00_00_00_00_00_00_00_00_00_00_00_00_00_00 ∷ [])
-    (ended 6 72 (pos 7) (pos 0) 0 0)
+    (ended 6 27 72 (pos 7) (pos 0) 0 0)
     (0b00_01_10_11_00_01_01_01_01_01_10_11_00_00_00_00 ∷
     0b11_10_01_00_11_01_00_01_10_11_01_00_00_00_00_00 ∷
     0b00_00_00_00_00_01_11_10_01_00_00_00_00_00_00_00 ∷ []))
@@ -97,7 +97,7 @@ table =
     (drawn (screen 16 1 1) (paneRow 0 0 16 1 60)
     (defBitmap 0x30 2 2 8 ∷ absMov 1 0 ∷ bitBlt 0 0 1 2 ∷ halt ∷ [])
     (blank 1)
-    (ended 3 28 (pos 2) (pos 0) 0 0)
+    (ended 3 6 28 (pos 2) (pos 0) 0 0)
     (blank 1))
     -- BIT_BLT_M between two bitmaps of the store: the source's bitmap overlaps the active one, its rectangle does not
     ∷ storing (piece 0x40 (painted 2 (0x1234_5678 ∷ 0x9ABC_DEF0 ∷ 0x2468_ACE1 ∷ [])) ∷ [])
@@ -105,7 +105,7 @@ table =
     (drawn (screen 16 1 1) (paneRow 0 0 16 1 100)
     (defBitmap 0x48 3 1 4 ∷ absMov 0 0 ∷ bitBltM 0x40 7 2 1 0 3 1 ∷ halt ∷ [])
     (blank 1)
-    (ended 3 36 (pos 3) (pos 0) 0 0)
+    (ended 3 8 36 (pos 3) (pos 0) 0 0)
     (blank 1))
     -- BIT_BLT_M where the active bitmap lies between rows of the source's bitmap: only the words of the rows copied count
     ∷ storing (piece 0x40 (painted 1 (0x1111 ∷ 0x2222 ∷ 0x3333 ∷ 0x4444 ∷ 0x0000 ∷ 0x5678 ∷ 0x9ABC ∷ [])) ∷ [])
@@ -113,7 +113,7 @@ table =
     (drawn (screen 16 1 1) (paneRow 0 0 16 1 100)
     (defBitmap 0x48 3 0 4 ∷ absMov 3 0 ∷ bitBltM 0x40 3 6 2 5 1 1 ∷ halt ∷ [])
     (blank 1)
-    (ended 3 36 (pos 4) (pos 0) 0 0)
+    (ended 3 1 36 (pos 4) (pos 0) 0 0)
     (blank 1))
     ∷ []
 

@@ -5,7 +5,7 @@ use Prim.Native.Nat.{ℕ}
 use Rattle.model.proofs.Computing.{machine}
 use Rattle.model.proofs.Listings.{minus, thePane, defBitmap, wordFont, byteFont, polyline, scanLines, circle, bitBlt, bitBltM, char, bytes}
 use Rattle.model.proofs.Scripts.{Piece, piece}
-use Rattle.model.proofs.FaultCases.{Case, passes, faults, onPane, onStore, results, dues}
+use Rattle.model.proofs.FaultCases.{Case, draws, faults, onPane, onStore, results, dues}
 
 -- ## What stands in the store and is active in the rows below
 
@@ -47,21 +47,21 @@ table =
     ∷ faults 25 onPane [] (polyline 0x7A 2)
     ∷ faults 25 onPane [] (scanLines 0x7C 1)
     -- just inside
-    ∷ passes onPane [] (polyline 0x78 2)
-    ∷ passes onPane [] (scanLines 0x7A 1)
+    ∷ draws 1 onPane [] (polyline 0x78 2)
+    ∷ draws 1 onPane [] (scanLines 0x7A 1)
     -- far outside, but empty
-    ∷ passes onPane [] (polyline 0x3FFFFE 0)
+    ∷ draws 0 onPane [] (polyline 0x3FFFFE 0)
     -- touching the active bitmap, bytes 60 to 67 hex: from before, from behind, within
     ∷ faults 25 onStore [] (polyline 0x5E 1)
     ∷ faults 25 onStore [] (scanLines 0x66 1)
     ∷ faults 25 onStore [] (polyline 0x62 1)
     -- beside it
-    ∷ passes onStore [] (polyline 0x5C 1)
-    ∷ passes onStore [] (scanLines 0x68 1)
+    ∷ draws 1 onStore [] (polyline 0x5C 1)
+    ∷ draws 1 onStore [] (scanLines 0x68 1)
     -- within it, but empty
-    ∷ passes onStore [] (scanLines 0x62 0)
+    ∷ draws 0 onStore [] (scanLines 0x62 0)
     -- the pane is touched by nothing
-    ∷ passes onPane [] (polyline 0x60 1)
+    ∷ draws 1 onPane [] (polyline 0x60 1)
     -- ## 28 and 25: CHAR
     -- no font, before the string, also if it is empty
     ∷ faults 28 onPane [] (char 0x61 1)
@@ -72,37 +72,37 @@ table =
     -- past the store
     ∷ faults 25 wordsOnPane cell (char 0x7E 2)
     -- just inside
-    ∷ passes wordsOnPane cell (char 0x7C 2)
+    ∷ draws 6 wordsOnPane cell (char 0x7C 2)
     -- far outside, but empty
-    ∷ passes wordsOnPane [] (char 0x3FFFFE 0)
+    ∷ draws 0 wordsOnPane [] (char 0x3FFFFE 0)
     -- touching the active bitmap
     ∷ faults 25 wordsOnStore cell (char 0x5E 2)
     ∷ faults 25 wordsOnStore cell (char 0x66 1)
     -- beside it
-    ∷ passes wordsOnStore cell (char 0x5C 2)
-    ∷ passes wordsOnStore cell (char 0x68 1)
+    ∷ draws 6 wordsOnStore cell (char 0x5C 2)
+    ∷ draws 3 wordsOnStore cell (char 0x68 1)
     -- within it, but empty
-    ∷ passes wordsOnStore [] (char 0x62 0)
+    ∷ draws 0 wordsOnStore [] (char 0x62 0)
     -- a string of bytes may be odd; just inside the store
-    ∷ passes bytesOnPane offsets (char 0x7D 3)
+    ∷ draws 3 bytesOnPane offsets (char 0x7D 3)
     -- past the store by a byte
     ∷ faults 25 bytesOnPane offsets (char 0x7D 4)
     -- an empty one may be anywhere
-    ∷ passes bytesOnPane [] (char 0x3FFFFF 0)
-    ∷ passes bytesOnStore [] (char 0x61 0)
+    ∷ draws 0 bytesOnPane [] (char 0x3FFFFF 0)
+    ∷ draws 0 bytesOnStore [] (char 0x61 0)
     -- touching the active bitmap by a byte, and beside it
     ∷ faults 25 bytesOnStore offsets (char 0x5E 3)
     ∷ faults 25 bytesOnStore offsets (char 0x67 1)
-    ∷ passes bytesOnStore offsets (char 0x5E 2)
-    ∷ passes bytesOnStore offsets (char 0x69 1)
+    ∷ draws 2 bytesOnStore offsets (char 0x5E 2)
+    ∷ draws 1 bytesOnStore offsets (char 0x69 1)
     -- ## CHAR's offset words
     -- past the store: code 32 names the word at 80 hex; code 31 the last one
     ∷ faults 25 bytesOnPane (offsetsAt40 ∷ piece 0x50 (32 ∷ []) ∷ []) (char 0x50 1)
-    ∷ passes bytesOnPane (offsetsAt40 ∷ piece 0x50 (31 ∷ []) ∷ []) (char 0x50 1)
+    ∷ draws 3 bytesOnPane (offsetsAt40 ∷ piece 0x50 (31 ∷ []) ∷ []) (char 0x50 1)
     -- touching the active bitmap: code 16 names the word at 60 hex, 19 that at 66 hex
     ∷ faults 25 bytesOnStore (offsetsAt40 ∷ piece 0x50 (16 ∷ []) ∷ []) (char 0x50 1)
     ∷ faults 25 bytesOnStore (offsetsAt40 ∷ piece 0x50 (19 ∷ []) ∷ []) (char 0x50 1)
-    ∷ passes bytesOnStore (offsetsAt40 ∷ piece 0x50 (20 ∷ []) ∷ []) (char 0x50 1)
+    ∷ draws 3 bytesOnStore (offsetsAt40 ∷ piece 0x50 (20 ∷ []) ∷ []) (char 0x50 1)
     -- the second character, the first being good
     ∷ faults 25 bytesOnPane (offsetsAt40 ∷ piece 0x50 (1 ∷ 32 ∷ []) ∷ []) (char 0x50 2)
     -- ## CHAR's descriptors, one word and one more a row
@@ -111,12 +111,12 @@ table =
     -- the last row past the store
     ∷ faults 25 wordsOnPane (piece 0x50 (bytes (0x001C ∷ [])) ∷ piece 0x78 (bytes (0x0300 ∷ [])) ∷ []) (char 0x50 1)
     -- just inside
-    ∷ passes wordsOnPane (piece 0x50 (bytes (0x001C ∷ [])) ∷ piece 0x78 (bytes (0x0200 ∷ [])) ∷ []) (char 0x50 1)
+    ∷ draws 2 wordsOnPane (piece 0x50 (bytes (0x001C ∷ [])) ∷ piece 0x78 (bytes (0x0200 ∷ [])) ∷ []) (char 0x50 1)
     -- touching the active bitmap by the first word, by the last row, and beside it
     ∷ faults 25 wordsOnStore (piece 0x50 (bytes (0x0013 ∷ [])) ∷ []) (char 0x50 1)
     ∷ faults 25 wordsOnStore (piece 0x50 (bytes (0x000C ∷ [])) ∷ piece 0x58 (bytes (0x0300 ∷ [])) ∷ []) (char 0x50 1)
-    ∷ passes wordsOnStore (piece 0x50 (bytes (0x000C ∷ [])) ∷ piece 0x58 (bytes (0x0200 ∷ [])) ∷ []) (char 0x50 1)
-    ∷ passes wordsOnStore (piece 0x50 (bytes (0x0014 ∷ [])) ∷ []) (char 0x50 1)
+    ∷ draws 3 wordsOnStore (piece 0x50 (bytes (0x000C ∷ [])) ∷ piece 0x58 (bytes (0x0200 ∷ [])) ∷ []) (char 0x50 1)
+    ∷ draws 1 wordsOnStore (piece 0x50 (bytes (0x0014 ∷ [])) ∷ []) (char 0x50 1)
     -- the second character, the first being good: nothing of the first is drawn
     ∷ faults 25 wordsOnPane (cellAt40 ∷ piece 0x50 (bytes (0x0000 ∷ 0x0020 ∷ [])) ∷ []) (char 0x50 2)
     -- by way of an offset word
@@ -133,12 +133,12 @@ table =
     ∷ faults 29 onPane [] (bitBlt 10 0 6 0)
     ∷ faults 29 onPane [] (bitBlt 0 1 0 1)
     -- all of the bitmap
-    ∷ passes onPane [] (bitBlt 0 0 15 1)
+    ∷ draws 32 onPane [] (bitBlt 0 0 15 1)
     -- ## 22 and 29: BIT_BLT_M
     -- the source's bitmap against DEF_BITMAP's rule at the active depth, before the rectangle
     ∷ faults 22 onPane [] (bitBltM 0x61 15 1 0 0 (minus 1) 0)
     ∷ faults 22 onPane [] (bitBltM 0x7A 15 3 0 0 (minus 1) 0)
-    ∷ passes onPane [] (bitBltM 0x78 15 3 0 0 0 0)
+    ∷ draws 1 onPane [] (bitBltM 0x78 15 3 0 0 0 0)
     ∷ faults 22 (defBitmap 0x60 15 0 2 ∷ []) [] (bitBltM 0x7E 15 0 0 0 0 0)
     -- the pane named with another size than its own, or at another depth
     ∷ faults 22 onStore [] (bitBltM thePane 14 1 0 0 0 0)
@@ -154,18 +154,18 @@ table =
     -- from the pane to itself
     ∷ faults 29 onPane [] (bitBltM thePane 15 1 0 0 0 0)
     -- from the pane to the store, and from the store to the pane
-    ∷ passes onStore [] (bitBltM thePane 15 1 0 0 15 1)
-    ∷ passes onPane [] (bitBltM 0x60 15 1 0 0 15 1)
+    ∷ draws 32 onStore [] (bitBltM thePane 15 1 0 0 15 1)
+    ∷ draws 32 onPane [] (bitBltM 0x60 15 1 0 0 15 1)
     -- sharing a byte with the active bitmap, bytes 60 to 67 hex: rows of one word from 5C hex, the first two free
-    ∷ passes onStore [] (bitBltM 0x5C 15 7 0 0 0 1)
+    ∷ draws 2 onStore [] (bitBltM 0x5C 15 7 0 0 0 1)
     ∷ faults 29 onStore [] (bitBltM 0x5C 15 7 0 0 0 2)
     ∷ faults 29 onStore [] (bitBltM 0x5C 15 7 0 5 0 0)
-    ∷ passes onStore [] (bitBltM 0x5C 15 7 0 6 0 1)
+    ∷ draws 2 onStore [] (bitBltM 0x5C 15 7 0 6 0 1)
     -- a row of three words from 5C hex: the first two free
-    ∷ passes onStore [] (bitBltM 0x5C 47 0 14 0 17 0)
+    ∷ draws 16 onStore [] (bitBltM 0x5C 47 0 14 0 17 0)
     ∷ faults 29 onStore [] (bitBltM 0x5C 47 0 14 0 18 0)
     -- a row of four words from 62 hex: the last free
-    ∷ passes onStore [] (bitBltM 0x62 63 0 48 0 15 0)
+    ∷ draws 16 onStore [] (bitBltM 0x62 63 0 48 0 15 0)
     ∷ faults 29 onStore [] (bitBltM 0x62 63 0 47 0 15 0)
     -- the bitmap itself
     ∷ faults 29 onStore [] (bitBltM 0x60 15 3 0 0 0 0)
@@ -174,9 +174,9 @@ table =
     ∷ faults 30 onPane [] (circle (minus 1))
     ∷ faults 30 onPane [] (circle (minus 32768))
     ∷ faults 30 onStore [] (circle (minus 3))
-    -- the least that is none, and one whose circle lies outside
-    ∷ passes onPane [] (circle 0)
-    ∷ passes onStore [] (circle 6)
+    -- the least that is none, and one whose circle lies mostly outside
+    ∷ draws 1 onPane [] (circle 0)
+    ∷ draws 4 onStore [] (circle 6)
     ∷ []
 
 pub draw-fault-cases : results table ≡ dues table

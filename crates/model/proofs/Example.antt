@@ -1,4 +1,4 @@
--- The script example (01, "The script program") as a theorem about set-up and the calls: what each line replies, and what all of them leave.
+-- The script example (01, "The script program"; 02, A.5) as a theorem about set-up and the calls: what each line replies, and what all of them leave.
 use mathlib.Core.Path.{_≡_, refl}
 use mathlib.Core.List.{List, [], _∷_}
 use lib.IntN.{pos}
@@ -45,8 +45,8 @@ pub example-told :
     ∷ (pos 0 ∷ [])
     -- `g,0`
     ∷ (pos 0 ∷ [])
-    -- `r,0,1,2,0`
-    ∷ (pos 0 ∷ pos 1 ∷ pos 2 ∷ pos 0 ∷ [])
+    -- `r,0,1,2,0,0`
+    ∷ (pos 0 ∷ pos 1 ∷ pos 2 ∷ pos 0 ∷ pos 0 ∷ [])
     -- `l,0,2,0,6,0,0,0,0`
     ∷ (pos 0 ∷ pos 2 ∷ pos 0 ∷ pos 6 ∷ pos 0 ∷ pos 0 ∷ pos 0 ∷ pos 0 ∷ [])
     -- `x,0,0`

@@ -16,8 +16,8 @@ use Rattle.model.proofs.Scripts.{Piece, piece, laid, script, values}
 
 -- what a command comes to
 pub data Fate : Type 0 where
-  -- it is done and counted
-  done : Fate
+  -- it is done and counted, and draws so many pixels
+  done : ℕ → Fate
   -- it is an end word
   end : Fate
   fault : ℕ → Fate
@@ -30,8 +30,12 @@ pub record Case : Type 0 where
   pub command : List ℕ
   pub fate : Fate
 
-abbrev pub passes : List (List ℕ) → List Piece → List ℕ → Case
-passes before pieces command = record { before = before; pieces = pieces; command = command; fate = done }
+abbrev pub draws : ℕ → List (List ℕ) → List Piece → List ℕ → Case
+draws n before pieces command = record { before = before; pieces = pieces; command = command; fate = done n }
+
+-- a command that draws nothing
+abbrev passes : List (List ℕ) → List Piece → List ℕ → Case
+passes = draws 0
 
 abbrev pub ends : List (List ℕ) → List Piece → List ℕ → Case
 ends before pieces command = record { before = before; pieces = pieces; command = command; fate = end }
@@ -85,20 +89,20 @@ stopped status n s =
       stores = s .stores;
     }
 
--- what came of a row: run's values, which are commands, status and fault, and the state where the run stopped
+-- what came of a row: run's values, which are commands, status, fault and pixels drawn, and the state where the run stopped
 pub record Result : Type 0 where
   pub values : List ℤ
   pub left : List State
 
 abbrev came : Fate → Answer → Result
-came done a = record { values = values (a .reply); left = [] }
+came (done n) a = record { values = values (a .reply); left = [] }
 came end a = record { values = values (a .reply); left = a .state ∷ [] }
 came (fault n) a = record { values = values (a .reply); left = a .state ∷ [] }
 
 abbrev due : Fate → State → Result
-due done s = record { values = pos 0 ∷ pos 1 ∷ pos 1 ∷ pos 0 ∷ []; left = [] }
-due end s = record { values = pos 0 ∷ pos 0 ∷ pos 2 ∷ pos 0 ∷ []; left = stopped 2 0 s ∷ [] }
-due (fault n) s = record { values = pos 0 ∷ pos 0 ∷ pos 3 ∷ pos n ∷ []; left = stopped 3 n s ∷ [] }
+due (done n) s = record { values = pos 0 ∷ pos 1 ∷ pos 1 ∷ pos 0 ∷ pos n ∷ []; left = [] }
+due end s = record { values = pos 0 ∷ pos 0 ∷ pos 2 ∷ pos 0 ∷ pos 0 ∷ []; left = stopped 2 0 s ∷ [] }
+due (fault n) s = record { values = pos 0 ∷ pos 0 ∷ pos 3 ∷ pos n ∷ pos 0 ∷ []; left = stopped 3 n s ∷ [] }
 
 unfoldable pub results : List Case → List Result
 unfolding reached

@@ -16,8 +16,8 @@ use Rattle.model.specs.Lines.{major, offsetX, offsetY, segmentDots, line
 use Rattle.model.specs.Lines as lines
 use Rattle.model.specs.declared.Source.the-variants.{Colour}
 use Rattle.model.proofs.Computing.{machine}
-use Rattle.model.proofs.Listings.{minus, thePane, halt, defBitmap, defClipRect, defColors, defLogicalOp, opaque, transparent, absMov, polyline, scanLines}
-use Rattle.model.proofs.Listings.{bytes}
+use Rattle.model.proofs.Listings.{minus, thePane, halt, defBitmap, defClipRect, defColors, defLogicalOp, opaque, transparent, absMov, polyline}
+use Rattle.model.proofs.Listings.{scanLines, bytes}
 use Rattle.model.proofs.Scripts.{piece}
 use Rattle.model.proofs.Pictures.{Picture, screen, paneRow, drawn, withPieces, blank, ended, outcomes, expectations}
 
@@ -37,7 +37,7 @@ table =
     0x1111_1111_1111 ∷
     0x1111_1111_1111 ∷
     0x1111_1111_1111 ∷ [])
-    (ended 4 30 (pos 7) (pos 5) 0 0)
+    (ended 4 12 30 (pos 7) (pos 5) 0 0)
     (0x1C11_1111_1111 ∷
     0x115C_1111_1111 ∷
     0x1111_C55C_5511 ∷
@@ -52,7 +52,7 @@ table =
     0b10_10_10_10_10_10_10_10_10_10_10_10_10_10_10_10_10_10_10_10_10_10_10_10 ∷
     0b10_10_10_10_10_10_10_10_10_10_10_10_10_10_10_10_10_10_10_10_10_10_10_10 ∷
     0b10_10_10_10_10_10_10_10_10_10_10_10_10_10_10_10_10_10_10_10_10_10_10_10 ∷ [])
-    (ended 5 36 (pos 2) (pos 3) 0 0)
+    (ended 5 39 36 (pos 2) (pos 3) 0 0)
     (0b10_10_10_11_10_10_10_10_10_10_10_10_10_10_10_10_10_10_10_10_10_10_10_10 ∷
     0b10_10_10_11_11_01_11_01_01_01_11_11_01_01_01_11_01_11_11_11_11_01_10_10 ∷
     0b10_10_10_10_10_10_10_10_10_10_10_10_10_10_10_10_10_10_10_10_10_11_10_10 ∷
@@ -67,7 +67,7 @@ table =
     (0b10_10_10_10_10_10_10_10 ∷
     0b10_10_10_10_10_10_10_10 ∷
     0b10_10_10_10_10_10_10_10 ∷ [])
-    (ended 7 50 (pos 5) (pos 2) 0 0)
+    (ended 7 9 50 (pos 5) (pos 2) 0 0)
     (0b10_01_11_01_01_10_01_10 ∷
     0b10_10_10_10_11_10_11_10 ∷
     0b10_10_10_10_01_10_01_10 ∷ []))
@@ -79,7 +79,7 @@ table =
     (defBitmap thePane 15 5 1 ∷ defColors 0xFFFF 0x0000 ∷ defLogicalOp 0xFFFF 6 ∷ absMov 1 0 ∷ polyline 0x48 4 ∷ absMov 9 3 ∷ polyline 0x58 3
     ∷ absMov 2 5 ∷ polyline 0x64 2 ∷ halt ∷ [])
     (blank 6)
-    (ended 9 66 (pos 2) (pos 5) 0 0)
+    (ended 9 39 66 (pos 2) (pos 5) 0 0)
     (0b00111110_00001000 ∷
     0b01000010_00010100 ∷
     0b01000010_00100010 ∷
@@ -95,7 +95,7 @@ table =
     0b10_10_10_10_10_10_10_10_10_10_10_10_10_10_10_10 ∷
     0b10_10_10_10_10_10_10_10_10_10_10_10_10_10_10_10 ∷
     0b10_10_10_10_10_10_10_10_10_10_10_10_10_10_10_10 ∷ [])
-    (ended 6 46 (pos 9) (pos 1) 0 0)
+    (ended 6 7 46 (pos 9) (pos 1) 0 0)
     (0b10_10_10_10_10_10_10_10_10_10_10_10_10_10_10_10 ∷
     0b10_10_10_10_10_01_10_10_10_01_11_10_10_10_10_10 ∷
     0b10_10_10_10_01_10_10_10_10_11_10_10_10_10_10_10 ∷
@@ -113,7 +113,7 @@ table =
     0b10_10_10_10_10_10_10_10_10_10_10_10_10_10_10_10 ∷
     0b10_10_10_10_10_10_10_10_10_10_10_10_10_10_10_10 ∷
     0b10_10_10_10_10_10_10_10_10_10_10_10_10_10_10_10 ∷ [])
-    (ended 7 50 (pos 11) (pos 4) 0 0)
+    (ended 7 14 50 (pos 11) (pos 4) 0 0)
     (0b10_10_11_01_11_01_10_10_10_10_11_10_11_10_10_10 ∷
     0b10_10_10_10_10_01_10_10_10_10_10_10_10_10_10_10 ∷
     0b10_10_10_10_10_11_10_11_10_10_11_10_11_10_10_10 ∷
@@ -126,7 +126,7 @@ table =
     (defBitmap thePane 7 1 2 ∷ defColors 0xFFFF 0x5555 ∷ opaque 0x9003 ∷ absMov (minus 32768) 0 ∷ polyline 0x28 2 ∷ halt ∷ [])
     (0b10_10_10_10_10_10_10_10 ∷
     0b10_10_10_10_10_10_10_10 ∷ [])
-    (ended 5 36 (pos 7) (pos 1) 0 0)
+    (ended 5 4 36 (pos 7) (pos 1) 0 0)
     (0b10_10_10_10_10_10_10_10 ∷
     0b10_10_10_10_11_11_11_01 ∷ []))
     ∷ []

@@ -13,6 +13,7 @@ pub mod CircleLaws
 pub mod CodeLaws
 pub mod SetupLaws
 pub mod CallLaws
+pub mod PaintLaws
 pub mod RunLaws
 pub mod QuietLaws
 -- Tests of the definitions by computation: what they are made of, then the bench figures, the script example, pictures, faults, refusals,
@@ -30,6 +31,7 @@ pub mod PenPictures
 pub mod CopyPictures
 pub mod CharPictures
 pub mod ListPictures
+pub mod PaintPictures
 pub mod FaultCases
 pub mod DrawFaultCases
 pub mod SetupCases

@@ -24,7 +24,7 @@ table =
     ∷ line (minus 7) 3 ∷ absMov 7 5 ∷ line (minus 7) (minus 3) ∷ absMov 7 5 ∷ line 3 5 ∷ absMov 7 5 ∷ line (minus 3) 5 ∷ absMov 7 5
     ∷ line 3 (minus 5) ∷ absMov 7 5 ∷ line (minus 3) (minus 5) ∷ halt ∷ [])
     (blank 11)
-    (ended 18 114 (pos 4) (pos 0) 0 0)
+    (ended 18 56 114 (pos 4) (pos 0) 0 0)
     (0b00001000_00100000 ∷
     0b00000100_01000000 ∷
     0b11000100_01000110 ∷
@@ -41,7 +41,7 @@ table =
     (defBitmap thePane 13 4 1 ∷ defColors 0xFFFF 0x0000 ∷ absMov 0 0 ∷ line 4 4 ∷ line 4 (minus 4) ∷ (0x5500 ∷ 0x0005 ∷ 0x0000 ∷ [])
     ∷ line 0 4 ∷ line (minus 4) 0 ∷ line (minus 1) (minus 1) ∷ absMov 1 3 ∷ line 0 0 ∷ halt ∷ [])
     (blank 7)
-    (ended 11 72 (pos 1) (pos 3) 0 0)
+    (ended 11 29 72 (pos 1) (pos 3) 0 0)
     (0b00000000_00000000 ∷
     0b01000000_01111110 ∷
     0b00100000_10000010 ∷
@@ -55,7 +55,7 @@ table =
     ∷ line (minus 20) 0 ∷ halt ∷ [])
     (0b00_00_00_00_00_00_00_00_00_00_00_00_00_00_00_00_00_00_00_00_00_00_00_00 ∷
     0b10_10_10_10_10_10_10_10_10_10_10_10_10_10_10_10_10_10_10_10_10_10_10_10 ∷ [])
-    (ended 8 50 (pos 1) (pos 1) 0 0)
+    (ended 8 33 50 (pos 1) (pos 1) 0 0)
     (0b00_01_11_01_01_01_11_11_01_01_01_11_01_11_11_11_11_01_11_01_01_01_00_00 ∷
     0b10_10_11_10_11_11_11_11_10_11_10_10_10_11_11_10_10_10_11_10_11_11_11_10 ∷ [])
     -- POINT uses pattern bit 15 alone: 1 foreground, 0 background, or nothing under transparency; outside the pane nothing
@@ -64,21 +64,21 @@ table =
     ∷ point 2 0 ∷ transparent 0x8000 ∷ point 2 1 ∷ point 4 0 ∷ point (minus 13) 0 ∷ halt ∷ [])
     (0b11111111_11111111 ∷
     0b00000000_00000000 ∷ [])
-    (ended 12 70 (neg 1) (pos 1) 0 0)
+    (ended 12 3 70 (neg 1) (pos 1) 0 0)
     (0b11111110_11111111 ∷
     0b00000000_00010000 ∷ [])
     -- POINT moves by whole coordinates: from −32768 by −32768 comes back to 0, wrapped before the pixel is drawn
     ∷ drawn (screen 16 1 1) (paneRow 0 0 16 1 40)
     (defBitmap thePane 15 0 1 ∷ defColors 0xFFFF 0x0000 ∷ absMov (minus 32768) 0 ∷ point (minus 32768) 0 ∷ halt ∷ [])
     (blank 1)
-    (ended 4 30 (pos 0) (pos 0) 0 0)
+    (ended 4 1 30 (pos 0) (pos 0) 0 0)
     (0b10000000_00000000 ∷ [])
     -- POLYLINE, the pattern carried on through the joints of three lines (02, A.4); one leaves the pane. Then one of no lines
     ∷ withPieces (piece 0x40 (bytes (0xFFFB ∷ 0xFFFE ∷ 0x0006 ∷ 0xFFFF ∷ 0x0004 ∷ 0x0002 ∷ [])) ∷ [])
     (drawn (screen 16 5 1) (paneRow 2 1 13 4 76)
     (defBitmap thePane 12 3 1 ∷ defColors 0xFFFF 0x0000 ∷ opaque 0xD56B ∷ absMov 3 3 ∷ polyline 0x40 3 ∷ polyline 0x40 0 ∷ halt ∷ [])
     (blank 5)
-    (ended 6 44 (pos 8) (pos 2) 0 0)
+    (ended 6 13 44 (pos 8) (pos 2) 0 0)
     (0b00000000_00000000 ∷
     0b00001100_00000000 ∷
     0b00100001_00000000 ∷
@@ -92,7 +92,7 @@ table =
     0x0000_0000_0000_0000 ∷
     0x1111_1111_1111_1111 ∷
     0x0000_0000_0000_0000 ∷ [])
-    (ended 6 42 (pos 8) (pos 2) 0 0)
+    (ended 6 11 42 (pos 8) (pos 2) 0 0)
     (0x0004_12F4_1000_0000 ∷
     0x0000_0200_0000_0000 ∷
     0x1111_11E5_0311_1111 ∷
@@ -102,7 +102,7 @@ table =
     (defBitmap thePane 15 6 1 ∷ defColors 0xFFFF 0x0000 ∷ defLogicalOp 0xFFFF 6 ∷ opaque 0xED35 ∷ absMov 0 0 ∷ rect 4 2 ∷ absMov 10 0
     ∷ rect (minus 4) 2 ∷ absMov 0 6 ∷ rect 4 (minus 2) ∷ absMov 10 6 ∷ rect (minus 4) (minus 2) ∷ halt ∷ [])
     (blank 7)
-    (ended 12 76 (pos 10) (pos 6) 0 0)
+    (ended 12 48 76 (pos 10) (pos 6) 0 0)
     (0b11101010_11100000 ∷
     0b10001010_00100000 ∷
     0b10010001_00100000 ∷
@@ -116,7 +116,7 @@ table =
     ∷ rect 0 3 ∷ absMov 2 2 ∷ rect 0 0 ∷ absMov 4 2 ∷ rect 5 1 ∷ absMov 11 2 ∷ rect 1 3 ∷ absMov 14 2 ∷ rect 1 1 ∷ absMov 22 3
     ∷ rect (minus 5) (minus 1) ∷ absMov 25 5 ∷ rect (minus 1) (minus 3) ∷ absMov 31 0 ∷ rect (minus 5) 0 ∷ halt ∷ [])
     (blank 6)
-    (ended 22 136 (pos 31) (pos 0) 0 0)
+    (ended 22 61 136 (pos 31) (pos 0) 0 0)
     (0b11011000_00000000_00000000_00011011 ∷
     0b00000000_00000000_00000000_00000000 ∷
     0b10101101_10011011_01011100_10000000 ∷
@@ -127,7 +127,7 @@ table =
     ∷ drawn (screen 16 3 1) (paneRow 2 1 12 2 40)
     (defBitmap thePane 11 1 1 ∷ defColors 0xFFFF 0x0000 ∷ opaque 0x02CB ∷ absMov (minus 2) (minus 2) ∷ rect 4 3 ∷ halt ∷ [])
     (blank 3)
-    (ended 5 34 (neg 2) (neg 2) 0 0)
+    (ended 5 4 34 (neg 2) (neg 2) 0 0)
     (0b00000000_00000000 ∷
     0b00001000_00000000 ∷
     0b00110000_00000000 ∷ [])
@@ -137,7 +137,7 @@ table =
     (defBitmap thePane 13 4 1 ∷ defColors 0xFFFF 0x0000 ∷ defClipRect 3 1 9 3 ∷ rect 11 2 ∷ line 12 4 ∷ absMov 0 0 ∷ scanLines 0x60 1
     ∷ absMov 9 1 ∷ point 0 0 ∷ point 0 2 ∷ halt ∷ [])
     (blank 5)
-    (ended 10 72 (pos 9) (pos 3) 0 0)
+    (ended 10 23 72 (pos 9) (pos 3) 0 0)
     (0b00000000_00000000 ∷
     0b00001100_00100000 ∷
     0b00001111_11100000 ∷
@@ -148,7 +148,7 @@ table =
     (defBitmap thePane 15 2 1 ∷ defColors 0xFFFF 0x0000 ∷ defClipRect 5 1 4 1 ∷ line 9 2 ∷ defClipRect 0 2 15 1 ∷ line (minus 9) (minus 2)
     ∷ halt ∷ [])
     (blank 3)
-    (ended 6 50 (pos 0) (pos 0) 0 0)
+    (ended 6 0 50 (pos 0) (pos 0) 0 0)
     (blank 3)
     ∷ []
 

@@ -9,15 +9,12 @@ use Prim.Native.Nat.{ℕ}
 use lib.ListN.{replicate}
 use Rattle.model.specs.Coordinates.{at}
 use Rattle.model.specs.Bitmaps.{Surface, paneSurface, pixels}
-use Rattle.model.specs.Record.{fresh}
 use Rattle.model.specs.Pixels.{change}
 use Rattle.model.specs.declared.Source.the-variants.{Copied}
 use Rattle.model.specs.Dots.{dot, visible}
-use Rattle.model.specs.Runs.{runs}
-use Rattle.model.specs.Calls.{started}
 use Rattle.model.proofs.Computing.{machine}
 use Rattle.model.proofs.Listings.{minus, thePane, halt, defBitmap, defClipRect, defColors, defLogicalOp, opaque, transparent, enterPick, exitPick}
-use Rattle.model.proofs.Listings.{absMov, line, listing}
+use Rattle.model.proofs.Listings.{absMov, line}
 use Rattle.model.proofs.Pictures.{Picture, screen, paneRow, drawn, blank, ended, outcomes, expectations}
 
 abbrev table : List Picture
@@ -27,14 +24,14 @@ table =
     (defBitmap thePane 18 1 1 ∷ defColors 0x00FF 0xFF00 ∷ line 18 0 ∷ defLogicalOp 0x3333 5 ∷ defColors 0xFFFF 0x0000 ∷ absMov 0 1
     ∷ line 18 0 ∷ halt ∷ [])
     (blank 2)
-    (ended 7 48 (pos 18) (pos 1) 0 0)
+    (ended 7 38 48 (pos 18) (pos 1) 0 0)
     (0b00000000_11111111_00000000_00000000 ∷
     0b00010011_00110011_00110000_00000000 ∷ [])
     -- Depth 2: a colour of eight different pixels; background where the pattern has 0
     ∷ drawn (screen 20 1 2) (paneRow 3 0 15 1 40)
     (defBitmap thePane 14 0 2 ∷ defColors 0x1BE4 0xFF00 ∷ opaque 0xF5F5 ∷ line 14 0 ∷ halt ∷ [])
     (blank 1)
-    (ended 4 28 (pos 14) (pos 0) 0 0)
+    (ended 4 15 28 (pos 14) (pos 0) 0 0)
     (0b00_00_00_11_11_10_01_00_00_11_10_11_11_10_01_00_00_11_00_00_00_00_00_00 ∷ [])
     -- Depth 4: XOR under a mask of one pixel's bits; the code's low four bits count
     ∷ drawn (screen 10 2 4) (paneRow 1 0 8 2 64)
@@ -42,7 +39,7 @@ table =
     ∷ line 7 0 ∷ halt ∷ [])
     (0xFFFF_FFFF_FFFF ∷
     0x0123_4567_89AB ∷ [])
-    (ended 7 48 (pos 7) (pos 1) 0 0)
+    (ended 7 16 48 (pos 7) (pos 1) 0 0)
     (0xFFCF_EFCF_EFFF ∷
     0x014B_454B_89AB ∷ [])
     -- Depth 8: even and odd columns take the high and the low byte of the colour
@@ -51,7 +48,7 @@ table =
     (0x11_11_11_11_11_11 ∷
     0x11_11_11_11_11_11 ∷
     0x11_11_11_11_11_11 ∷ [])
-    (ended 6 42 (pos 0) (pos 1) 0 0)
+    (ended 6 8 42 (pos 0) (pos 1) 0 0)
     (0x11_11_11_11_11_11 ∷
     0x11_AB_12_AB_12_11 ∷
     0x11_B1_13_B1_13_11 ∷ [])
@@ -61,27 +58,27 @@ table =
     ∷ line 7 0 ∷ halt ∷ [])
     (0b00_01_10_11_00_01_10_11 ∷
     0b00_01_10_11_00_01_10_11 ∷ [])
-    (ended 8 50 (pos 7) (pos 1) 0 0)
+    (ended 8 12 50 (pos 7) (pos 1) 0 0)
     (0b10_11_11_10_10_11_11_10 ∷
     0b10_11_10_11_10_11_10_11 ∷ [])
     -- Pick mode: nothing is drawn, everything else happens; a pixel in the clip sets the flag, though mask and operation would keep it
     ∷ drawn (screen 16 2 1) (paneRow 0 0 16 2 80)
     (defBitmap thePane 15 1 1 ∷ defColors 0xFFFF 0x0000 ∷ defLogicalOp 0x0000 3 ∷ enterPick ∷ defClipRect 4 0 6 1 ∷ line 4 0 ∷ halt ∷ [])
     (blank 2)
-    (ended 6 42 (pos 4) (pos 0) 1 0)
+    (ended 6 0 42 (pos 4) (pos 0) 1 0)
     (blank 2)
     -- Pick mode: pixels outside the clip and zeros under transparency do not set the flag
     ∷ drawn (screen 16 2 1) (paneRow 0 0 16 2 80)
     (defBitmap thePane 15 1 1 ∷ defColors 0xFFFF 0x0000 ∷ enterPick ∷ defClipRect 4 0 6 1 ∷ line 3 0 ∷ absMov 7 1 ∷ line 5 0
     ∷ transparent 0xF1FF ∷ absMov 0 0 ∷ line 7 0 ∷ halt ∷ [])
     (blank 2)
-    (ended 10 64 (pos 7) (pos 0) 0 0)
+    (ended 10 0 64 (pos 7) (pos 0) 0 0)
     (blank 2)
     -- ENTER_PICK clears the flag, EXIT_PICK keeps it; after it pixels are drawn again, and leave the flag alone
     ∷ drawn (screen 16 2 1) (paneRow 0 0 16 2 80)
     (defBitmap thePane 15 1 1 ∷ defColors 0xFFFF 0x0000 ∷ enterPick ∷ line 3 0 ∷ enterPick ∷ exitPick ∷ line 0 1 ∷ halt ∷ [])
     (blank 2)
-    (ended 7 36 (pos 3) (pos 1) 0 0)
+    (ended 7 2 36 (pos 3) (pos 1) 0 0)
     (0b00010000_00000000 ∷
     0b00010000_00000000 ∷ [])
     -- The flag stays after EXIT_PICK, and a later drawing in pick mode that meets nothing does not clear it
@@ -89,7 +86,7 @@ table =
     (defBitmap thePane 15 1 1 ∷ defColors 0xFFFF 0x0000 ∷ enterPick ∷ line 3 0 ∷ line 0 9 ∷ line 0 3 ∷ exitPick ∷ absMov 2 1 ∷ line 2 0
     ∷ halt ∷ [])
     (blank 2)
-    (ended 9 52 (pos 4) (pos 1) 1 0)
+    (ended 9 3 52 (pos 4) (pos 1) 1 0)
     (0b00000000_00000000 ∷
     0b00111000_00000000 ∷ [])
     ∷ []
@@ -97,23 +94,6 @@ table =
 pub pen-pictures : outcomes table ≡ expectations table
 unfolding machine outcomes
 pen-pictures = refl
-
--- ## Pixels visible
-
--- a run counts the pixels that are visible: of a LINE of ten pixels five are in the clip, of these the pattern leaves one out; a LINE outside has
--- none; in pick mode they count as well
-abbrev counted : List ℕ
-counted =
-    listing
-    (defBitmap thePane 15 1 1 ∷ defClipRect 3 0 7 1 ∷ transparent 0xFDFF ∷ line 9 0 ∷ line 5 5 ∷ enterPick ∷ absMov 7 1 ∷ line 2 0 ∷ halt ∷ [])
-
-pub hits-counted :
-    runs (record { width = 16; height = 2; depth = 1 })
-    (record { left = 0; top = 0; width = 16; height = 2; start = 0; len = 58 })
-    99 (started fresh 0) (blank 4) counted .hits
-    ≡ 5
-unfolding machine
-hits-counted = refl
 
 -- ## Outside a surface
 

@@ -120,7 +120,7 @@ withPieces pieces = storing pieces []
 abbrev pub blank : ℕ → List ℕ
 blank n = replicate n 0
 
--- so many commands done and the end reached: pointer, position, pick and trap flag
-abbrev pub ended : ℕ → ℕ → ℤ → ℤ → ℕ → ℕ → List (List ℤ)
-ended n pointer x y pick trap =
-    (pos 0 ∷ pos n ∷ pos 2 ∷ pos 0 ∷ []) ∷ (pos 0 ∷ pos 2 ∷ pos 0 ∷ pos pointer ∷ x ∷ y ∷ pos pick ∷ pos trap ∷ []) ∷ []
+-- so many commands done, so many pixels drawn, and the end reached: pointer, position, pick and trap flag
+abbrev pub ended : ℕ → ℕ → ℕ → ℤ → ℤ → ℕ → ℕ → List (List ℤ)
+ended n pixels pointer x y pick trap =
+    (pos 0 ∷ pos n ∷ pos 2 ∷ pos 0 ∷ pos pixels ∷ []) ∷ (pos 0 ∷ pos 2 ∷ pos 0 ∷ pos pointer ∷ x ∷ y ∷ pos pick ∷ pos trap ∷ []) ∷ []

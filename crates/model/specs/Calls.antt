@@ -15,7 +15,7 @@ use Rattle.model.specs.Judge.{verdictOf}
 use Rattle.model.specs.Setup.{rowAt, paneAt, checks, paneBad}
 pub use Rattle.model.specs.declared.Console.{Console}
 use Rattle.model.specs.Replies.{Response, refusedWith, acceptedWith, natural, ranValues, viewValues}
-use Rattle.model.specs.Replies.{verdictValues}
+use Rattle.model.specs.Replies.{Ran, verdictValues}
 
 -- the console record and the two buffers, as lent to a call and as left by it
 pub record State : Type 0 where
@@ -90,15 +90,19 @@ outcome a p screen store = record { reply = a; pane = p; screen = screen; store 
 abbrev pub started : Pane → ℕ → Pane
 started p a = withReturns (withProgress p (record { status = statusRunning; fault = 0; pointer = a })) noReturns
 
--- "else commands done, status, fault"
-abbrev pub ran : Finish → Outcome
-ran f =
-    outcome (acceptedWith (ranValues (record {
+-- "else commands done, status, fault"; "Run is to report, besides its commands, the number of pixels drawn in it"
+-- (02, A.5)
+abbrev pub ranOf : Finish → Ran
+ranOf f =
+    record {
       commands = f .count;
       status = f .pane .progress .status;
       fault = f .pane .progress .fault;
-    })))
-    (f .pane) (f .screen) (f .store)
+      pixels = f .paint;
+    }
+
+abbrev pub ran : Finish → Outcome
+ran f = outcome (acceptedWith (ranValues (ranOf f))) (f .pane) (f .screen) (f .store)
 
 -- "status, fault, pointer, position, pick and trap flag"
 abbrev pub shown : Pane → Response

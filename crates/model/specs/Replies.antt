@@ -29,9 +29,9 @@ natural n = number (pos n)
 -- ## "If an answer is an enum, the promises use a definition that states this paper's number
 -- ## and values for each of its cases"
 
--- "commands done, status, fault"
+-- "commands done, status, fault"; the pixels drawn are "the last field of r" (02, A.5)
 abbrev pub ranValues : Ran → List Value
-ranValues r = natural (r .commands) ∷ natural (r .status) ∷ natural (r .fault) ∷ []
+ranValues r = natural (r .commands) ∷ natural (r .status) ∷ natural (r .fault) ∷ natural (r .pixels) ∷ []
 
 -- "status, fault, pointer, position, pick and trap flag"
 abbrev pub progressValues : Progress → List Value

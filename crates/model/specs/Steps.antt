@@ -4,6 +4,7 @@ use Prim.Native.Nat.{ℕ}
 use mathlib.Core.List.{List, []}
 use mathlib.Core.Bool.{cond, _&&_, _||_}
 use lib.Dec.{ltb, eqb}
+use lib.ListN.{length}
 use Rattle.model.specs.Bitmaps.{Geometry, Row, Bitmap, Surface, surfaceOf}
 use Rattle.model.specs.declared.Bitmap.the-variants as bitmap
 use Rattle.model.specs.Record.{Pane, withPointer, withPosition, withFlags, ended, faulted}
@@ -14,17 +15,17 @@ use Rattle.model.specs.declared.Decoded.the-variants.{Do, End, Fault}
 use Rattle.model.specs.Faults.{contextOf, faultOf}
 use Rattle.model.specs.Effects.{Effect, becomes, draws, effectOf}
 
--- commands counted, pixels visible, the next record, the next store, the changes to the pane's pixels
+-- commands counted, pixels drawn, the next record, the next store, the changes to the pane's pixels
 pub record Plan : Type 0 where
   pub counted : ℕ
-  pub hits : ℕ
+  pub paint : ℕ
   pub pane : Pane
   pub store : List ℕ
   pub drawn : List Change
 
 -- "nothing else changes, nothing is counted"
 abbrev pub stopped : Pane → List ℕ → Plan
-stopped q store = record { counted = 0; hits = 0; pane = q; store = store; drawn = [] }
+stopped q store = record { counted = 0; paint = 0; pane = q; store = store; drawn = [] }
 
 -- ## A drawing
 
@@ -53,15 +54,20 @@ onScreen (bitmap.Store a xmax ymax b) cs = []
 unfoldable pub madeBy : Surface → Pane → Drawing → List Change
 madeBy s p d = cond (p .flags .picking) [] (changesOf s (p .clip) (p .pen) (d .dots))
 
+-- "the number of pixels drawn in it, a pixel drawn twice counting twice and pick mode counting none" (02, A.5):
+-- a drawn pixel is one change, whether or not mask and operation leave its value as it was
+unfoldable pub paintOf : Surface → Pane → Drawing → ℕ
+paintOf s p d = length (madeBy s p d)
+
 -- ## The plan of a command
 
 -- "the command is done, counts one, and the pointer goes on"
 unfoldable pub planOf : Geometry → Row → Pane → List ℕ → ℕ → Effect → Plan
-planOf g r p store next (becomes q) = record { counted = 1; hits = 0; pane = q; store = store; drawn = [] }
+planOf g r p store next (becomes q) = record { counted = 1; paint = 0; pane = q; store = store; drawn = [] }
 planOf g r p store next (draws d) =
     record {
       counted = 1;
-      hits = hits (surfaceOf g r (p .bitmap)) (p .clip) (d .dots);
+      paint = paintOf (surfaceOf g r (p .bitmap)) p d;
       pane = drewPane p next d (hits (surfaceOf g r (p .bitmap)) (p .clip) (d .dots));
       store = onStore g r (p .bitmap) (madeBy (surfaceOf g r (p .bitmap)) p d) store;
       drawn = onScreen (p .bitmap) (madeBy (surfaceOf g r (p .bitmap)) p d);

@@ -311,11 +311,12 @@ pub enum Source {
 
 // ---- Replies
 
-// What run answers.
+// What run answers: the commands done, the status and the fault, and the pixels drawn.
 pub struct Ran {
     pub commands: u32,
     pub status: u8,
     pub fault: u8,
+    pub pixels: u64,
 }
 
 // What look answers.

@@ -1,4 +1,4 @@
--- How many dots a command draws: no more than `mostDots`, from the definitions of what each draws.
+-- How many dots a command draws: no more than `mostPixels`, from the definitions of what each draws.
 use mathlib.Core.Path.{_≡_, refl, ap}
 use mathlib.Core.Bool.{Bool}
 use mathlib.Core.List.{List, [], _∷_}
@@ -18,13 +18,13 @@ use Rattle.model.specs.Lines.{Pair, Triple, pixelsFrom, segmentDots, lineDots, 
 use Rattle.model.specs.Lines.{walk, alongX, alongY, once, patterned, rectangle}
 use Rattle.model.specs.Circles.{circle}
 use Rattle.model.specs.Copies.{rectangleOf, copyDots, copy}
+use Rattle.model.specs.Runs.{mostPixels}
 use Rattle.model.specs.Glyphs.{heightOf, widthOf, glyphDots, passed, string}
 use Rattle.model.proofs.OutlineLaws.{once-length}
 use Rattle.model.proofs.CircleLaws.{circle-length}
 use Rattle.coordinates.proofs.SignedLaws.{natAbs-coord, natAbs-negate, index-coord}
 use Rattle.canvas.proofs.CanvasLaws.{listed-length, joined-length}
 use Rattle.draw_lines.proofs.SegmentLaws.{segmentDots-few}
-use Rattle.perform.specs.Performing.{mostDots}
 
 -- ## Lists
 
@@ -36,11 +36,11 @@ le-then h k = omega arith
 
 -- ## Lines
 
-pub point-few : (pen : Pen) (p : Point) → length (pointAt pen p .dots) ≤ mostDots
+pub point-few : (pen : Pen) (p : Point) → length (pointAt pen p .dots) ≤ mostPixels
 unfolding pointAt
 point-few pen p = omega arith
 
-pub line-few : (pen : Pen) (p : Point) (dx dy : ℕ) → length (line pen p (coord dx) (coord dy) .dots) ≤ mostDots
+pub line-few : (pen : Pen) (p : Point) (dx dy : ℕ) → length (line pen p (coord dx) (coord dy) .dots) ≤ mostPixels
 unfolding line
 line-few pen p dx dy = omega (arith, segmentDots-few pen (place p) (coord dx) (coord dy) 0 0 (natAbs-coord dx) (natAbs-coord dy))
 
@@ -73,13 +73,13 @@ scanLines-length pen i (suc n) f p h =
     )
 
 module _ (pen : Pen) (p : Point) (store : List ℕ) (a n : ℕ) (h : n ≤ 65535) where
-  pub polyline-few : length (polyline pen p (pairsAt store a n) .dots) ≤ mostDots
+  pub polyline-few : length (polyline pen p (pairsAt store a n) .dots) ≤ mostPixels
   unfolding pairsAt polyline
   polyline-few =
       le-then (segments-length pen 0 0 0 n _ p (λ k. natAbs-coord (wordAt store (a + 4 * k))) (λ k. natAbs-coord (wordAt store (a + 4 * k + 2))))
       (mul-le-mul-right 32769 h)
 
-  pub scanLines-few : length (scanLines pen p (triplesAt store a n) .dots) ≤ mostDots
+  pub scanLines-few : length (scanLines pen p (triplesAt store a n) .dots) ≤ mostPixels
   unfolding triplesAt
   scanLines-few = le-then (scanLines-length pen 0 n _ p (λ k. natAbs-coord (wordAt store (a + 6 * k + 4)))) (mul-le-mul-right 32769 h)
 
@@ -99,7 +99,7 @@ walk-length p dx dy h k =
     let up = listed-length 0 (suc (natAbs (negℤ dy))) (λ i. offset (offset p (pos 0) dy) (pos 0) (signAs (negℤ dy) i)) in
     simp length-append (omega (arith, x, y, back, up, natAbs-negate dx, natAbs-negate dy))
 
-pub rectangle-few : (pen : Pen) (p : Point) (dx dy : ℕ) → length (rectangle pen p (coord dx) (coord dy) .dots) ≤ mostDots
+pub rectangle-few : (pen : Pen) (p : Point) (dx dy : ℕ) → length (rectangle pen p (coord dx) (coord dy) .dots) ≤ mostPixels
 unfolding rectangle
 rectangle-few pen p dx dy =
     let l = walk (place p) (coord dx) (coord dy) in
@@ -107,12 +107,12 @@ rectangle-few pen p dx dy =
 
 -- ## CIRCLE
 
-pub circle-few : (pen : Pen) (p : Point) (radius : ℕ) → length (circle pen p (natAbs (coord radius)) .dots) ≤ mostDots
+pub circle-few : (pen : Pen) (p : Point) (radius : ℕ) → length (circle pen p (natAbs (coord radius)) .dots) ≤ mostPixels
 circle-few pen p radius = omega (arith, circle-length pen p (natAbs (coord radius)), natAbs-coord radius)
 
 -- ## Copies
 
-pub copy-few : (see : ℕ → ℕ → ℕ) (spacing : ℕ) (p : Point) (b : Block) → length (copy see spacing p (rectangleOf b) .dots) ≤ mostDots
+pub copy-few : (see : ℕ → ℕ → ℕ) (spacing : ℕ) (p : Point) (b : Block) → length (copy see spacing p (rectangleOf b) .dots) ≤ mostPixels
 unfolding copy copyDots
 copy-few see spacing p b =
     let n = suc (index (coord (b .dy))) in
@@ -147,6 +147,6 @@ string-length pen transparent t store p (a ∷ l) =
     )
 
 pub string-few : (pen : Pen) (transparent : Bool) (t : Text) (store : List ℕ) (p : Point) (n : ℕ) (f : ℕ → ℕ) → n ≤ 65535
-    → length (string pen transparent t store p (listed 0 n f) .dots) ≤ mostDots
+    → length (string pen transparent t store p (listed 0 n f) .dots) ≤ mostPixels
 string-few pen transparent t store p n f h =
     omega (arith, string-length pen transparent t store p (listed 0 n f), listed-length 0 n f)

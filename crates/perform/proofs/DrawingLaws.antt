@@ -25,6 +25,7 @@ use Rattle.model.specs.Copies.{rectangleOf, seen, copy, blockBad}
 use Rattle.model.specs.Glyphs.{descriptor, string}
 use Rattle.model.specs.Faults.{noBitmap, noFont, arrayBad, stringBad, descriptorsBad, sourceBitmap, contextOf, faultOf}
 use Rattle.model.specs.Effects.{Effect, draws, effectOf}
+use Rattle.model.specs.Runs.{mostPixels}
 use Rattle.model.proofs.Command.{the-type}
 use Rattle.model.proofs.Decisions.{cond-none}
 use Rattle.bitmaps.specs.declared.areas.Area.{Area}
@@ -41,7 +42,7 @@ use Rattle.draw_copies.specs.Transfers.{Copyable}
 use Rattle.draw_copies.proofs.SourceLaws.{copyFault-copyable, seen-pixels}
 use Rattle.draw_text.specs.Writing.{Legible, Writable}
 use Rattle.draw_text.proofs.LegibleLaws.{char-legible}
-use Rattle.perform.specs.Performing.{Allowed, Carries, mostDots}
+use Rattle.perform.specs.Performing.{Allowed, Carries}
 use Rattle.perform.proofs.KindLaws.{drawingTags, recordTags, drawing-draws, record-changes, drawFault-none, either-effect}
 use Rattle.perform.proofs.ReadyLaws.{ready-of}
 use Rattle.perform.proofs.CountLaws.{point-few, line-few, polyline-few, scanLines-few, rectangle-few, circle-few, copy-few, string-few}
@@ -121,7 +122,7 @@ module _ (g : Geometry) (r : Row) (p : Pane) (screen store : List ℕ) (d : Draw
   -- the command k, told as c, draws v on the target t
   pub carries : (v : Target → Drawing) (k : Command) {c : Command} {t : Target} → t ≡ targetOf g r p → c ≡ k
       → ((next : ℕ) → effectOf g r p (pixels (paneSurface g r) screen) store next k ≡ draws (v (targetOf g r p)))
-      → length (v (targetOf g r p) .dots) ≤ mostDots → Drew t (v t) (canvas screen store 0) d screen′ store′
+      → length (v (targetOf g r p) .dots) ≤ mostPixels → Drew t (v t) (canvas screen store 0) d screen′ store′
       → Carries g r p c screen store d screen′ store′
   carries v k {c} {t} aim told is few h =
       let drawn : Drew (targetOf g r p) (v (targetOf g r p)) (canvas screen store 0) d screen′ store′ =

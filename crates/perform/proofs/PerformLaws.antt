@@ -1,8 +1,8 @@
 -- What a command that is free of faults leaves: where it changes the record alone, and where it draws.
 use mathlib.Core.Path.{_≡_, sym, ap, ap₂, subst, _∙_}
-use mathlib.Core.Bool.{Bool, false}
+use mathlib.Core.Bool.{Bool, true, false, cond}
 use mathlib.Core.List.{List}
-use Prim.Native.Nat.{ℕ}
+use Prim.Native.Nat.{ℕ, _≤_}
 use native.Mathlib.Omega.{arith}
 use Rattle.model.specs.declared.Geometry.{Geometry}
 use Rattle.model.specs.declared.Row.{Row}
@@ -21,6 +21,11 @@ use Rattle.canvas.specs.Canvas.{Canvas}
 use Rattle.canvas.proofs.PlanLaws.{canvasOf, planned}
 use Rattle.perform.specs.Performing.{Settles, Carries, Performs, finish, performed, quietly, drewOn}
 use Rattle.perform.specs.declared.Performed.{Performed}
+
+-- none in pick mode, and else so many, is at most so many
+unless-few : {hits most : ℕ} (picking : Bool) → hits ≤ most → cond picking 0 hits ≤ most
+unless-few true h = omega arith
+unless-few false h = h
 
 module _ (g : Geometry) (r : Row) (p : Pane) (next : ℕ) (c : Command) (screen store : List ℕ) where
   performed-as : (e : Effect) → effectOf g r p (pixels (paneSurface g r) screen) store next c ≡ e
@@ -52,9 +57,9 @@ module _ (g : Geometry) (r : Row) (p : Pane) (next : ℕ) (c : Command) (screen 
       (record {
         leaves =
             ap₂ (λ (z : Point) (b : Bool).
-            finish 1 (d .hits) (drewPane p next (record { dots = w .dots; position = z; trap = b }) (d .hits)) screen′ store′)
+            finish 1 (cond (p .flags .picking) 0 (d .hits)) (drewPane p next (record { dots = w .dots; position = z; trap = b }) (d .hits)) screen′ store′)
             (drawn .position) (drawn .trap)
-            ∙ ap (λ (z : Canvas). finish 1 (z .hits) (drewPane p next w (z .hits)) (z .screen) (z .store)) (drawn .dots)
+            ∙ ap (λ (z : Canvas). finish 1 (cond (p .flags .picking) 0 (z .hits)) (drewPane p next w (z .hits)) (z .screen) (z .store)) (drawn .dots)
             ∙ sym (planned g r p w screen store active next) ∙ sym (performed-as (draws w) k);
-        few = h .few;
+        few = unless-few (p .flags .picking) (h .few);
       })

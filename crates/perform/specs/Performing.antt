@@ -1,7 +1,8 @@
 -- A command done on a pane: what is needed of the pane, and what the command leaves.
 use mathlib.Core.Path.{_≡_}
+use mathlib.Core.Bool.{cond}
 use mathlib.Core.List.{List, []}
-use Prim.Native.Nat.{ℕ, _*_, _≤_}
+use Prim.Native.Nat.{ℕ, _≤_}
 use lib.ListN.{length}
 use Rattle.model.specs.declared.Geometry.{Geometry}
 use Rattle.model.specs.declared.Row.{Row}
@@ -11,7 +12,7 @@ use Rattle.model.specs.Bitmaps.{paneSurface, pixels}
 use Rattle.model.specs.Dots.{Drawing}
 use Rattle.model.specs.Effects.{becomes, draws, effectOf}
 use Rattle.model.specs.Faults.{contextOf, faultOf}
-use Rattle.model.specs.Runs.{Finish, carried}
+use Rattle.model.specs.Runs.{Finish, carried, mostPixels}
 use Rattle.model.specs.Steps.{drewPane, planOf}
 use Rattle.bitmaps.specs.Places.{Placed}
 use Rattle.refusals.specs.Good.{Good}
@@ -34,19 +35,15 @@ pub record Allowed (g : Geometry) (r : Row) (p : Pane) (screen : ℕ) (store : L
 
 -- ## What is left
 
--- commands done, pixels visible, and the record, the screen and the store that are left
+-- commands done, pixels drawn, and the record, the screen and the store that are left
 abbrev pub finish : ℕ → ℕ → Pane → List ℕ → List ℕ → Finish
-finish count hits pane screen store =
-    record { count = count; hits = hits; pane = pane; screen = screen; store = store }
+finish count paint pane screen store =
+    record { count = count; paint = paint; pane = pane; screen = screen; store = store }
 
 -- a command that is free of faults, done, the address after it being `next`
 unfoldable pub performed : Geometry → Row → Pane → ℕ → Command → List ℕ → List ℕ → Finish
 performed g r p next c screen store =
     carried g r (planOf g r p store next (effectOf g r p (pixels (paneSurface g r) screen) store next c)) screen
-
--- the most dots of a command: POLYLINE or SCAN_LINES with 65,535 lines of 32,769 pixels
-abbrev pub mostDots : ℕ
-mostDots = 65535 * 32769
 
 -- ## The commands that draw nothing
 
@@ -71,21 +68,21 @@ pub record Carries (g : Geometry) (r : Row) (p : Pane) (c : Command) (screen sto
     (screen′ store′ : List ℕ) : Type 0 where
   pub drew : (next : ℕ) (w : Drawing) → effectOf g r p (pixels (paneSurface g r) screen) store next c ≡ draws w
       → Drew (targetOf g r p) w (canvas screen store 0) d screen′ store′
-  pub few : d .hits ≤ mostDots
+  pub few : d .hits ≤ mostPixels
 
 -- a command done: it leaves what model says, and draws at most so much
 pub record Performs (g : Geometry) (r : Row) (p : Pane) (next : ℕ) (c : Command) (screen store : List ℕ)
     (d : Performed) (screen′ store′ : List ℕ) : Type 0 where
-  pub leaves : finish 1 (d .hits) (d .pane) screen′ store′ ≡ performed g r p next c screen store
-  pub few : d .hits ≤ mostDots
+  pub leaves : finish 1 (d .paint) (d .pane) screen′ store′ ≡ performed g r p next c screen store
+  pub few : d .paint ≤ mostPixels
 
 -- a command that drew nothing
 abbrev pub quietly : Pane → Performed
-quietly p = record { pane = p; hits = 0 }
+quietly p = record { pane = p; paint = 0 }
 
 -- a drawing command, by what its routine answered
 abbrev pub drewOn : Pane → ℕ → Drawn → Performed
 drewOn p next d = record {
   pane = drewPane p next (record { dots = []; position = d .position; trap = d .trap }) (d .hits);
-  hits = d .hits;
+  paint = cond (p .flags .picking) 0 (d .hits);
 }

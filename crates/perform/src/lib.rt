@@ -4,6 +4,7 @@ pub mod settling; // settling.rt: the commands that draw nothing
 pub mod drawing; // drawing.rt: the drawing commands, on the pane's target
 
 ghost use mathlib.Core.Path.{_≡_};
+ghost use mathlib.Core.Bool.{cond};
 ghost use lib.ListN.{length};
 ghost use Rattle.perform.specs.Performing.{Allowed, Performs, quietly, drewOn};
 use canvas::Drawn;
@@ -13,17 +14,27 @@ use model::Frame;
 use model::Pane;
 use settling::settle;
 
-// What a command leaves beside both buffers: the record, and how many of its pixels were visible.
+// What a command leaves beside both buffers: the record, and how many pixels it drew.
 pub struct Performed {
     pub pane: Pane,
-    pub hits: usize,
+    pub paint: u64,
 }
 
 // A command that draws nothing leaves this record.
 fn quiet(pane: Pane) -> Performed
     ensures { λ d. ⌜ d ≡ quietly pane ⌝ }
 {
-    Performed { pane, hits: 0 }
+    Performed { pane, paint: 0 }
+}
+
+// The pixels drawn: those that were visible, and none in pick mode.
+fn paint(picking: bool, hits: usize) -> u64
+    ensures { λ r. ⌜ r ≡ cond picking 0 hits ⌝ }
+{
+    if picking {
+        return 0;
+    }
+    hits as u64
 }
 
 // A drawing command leaves the pointer behind it, the position, and the flags: in pick mode the pick flag is
@@ -34,15 +45,13 @@ fn drew(p: Pane, next: u32, d: Drawn) -> Performed
     let pick = p.flags.pick | (p.flags.picking & (0 < d.hits));
     let trap = p.flags.trap | d.trap;
     let position = d.position;
+    let paint = paint(p.flags.picking, d.hits);
     let mut q = p;
     q.flags.pick = pick;
     q.flags.trap = trap;
     q.position = position;
     q.progress.pointer = next;
-    Performed {
-        pane: q,
-        hits: d.hits,
-    }
+    Performed { pane: q, paint }
 }
 
 // A command that is free of faults, done: the record answered has the address after it.

@@ -1,7 +1,7 @@
 -- What a run's loop carries: what is left to run gives the same end, the pane stays sound, and the counts stay in their bounds.
-use mathlib.Core.Path.{_≡_, refl, sym, ap, _∙_}
+use mathlib.Core.Path.{_≡_, refl, sym, ap, subst, _∙_}
 use mathlib.Core.List.{List}
-use Prim.Native.Nat.{ℕ, suc, _+_, _*_, _≤_, _<_}
+use Prim.Native.Nat.{ℕ, suc, _+_, _*_, _^_, _≤_, _<_}
 use native.Mathlib.Nat.{add-zero}
 use native.Mathlib.Omega.{arith}
 use borrow.Author.Tests.{eq-eqb, ne-eqb}
@@ -15,11 +15,12 @@ use Rattle.model.specs.declared.Command.{Command}
 use Rattle.model.specs.declared.Decoded.{Decoded}
 use Rattle.model.specs.declared.Decoded.the-variants.{Do, End, Fault}
 use Rattle.model.specs.Commands.{decode}
-use Rattle.model.specs.Runs.{Finish, idle, addCounts, stepped, follow, runs}
+use Rattle.model.specs.Runs.{Finish, PaintFits, idle, addCounts, mostPixels, stepped, follow, runs}
 use Rattle.model.proofs.Decisions.{cond-true}
 use Rattle.model.proofs.RunLaws.{addCounts-zero, addCounts-twice, runs-idle}
-use Rattle.perform.specs.Performing.{Sound, finish, mostDots}
-use Rattle.processor.specs.Obeying.{stoppedOf}
+use Rattle.perform.specs.Performing.{Sound, finish}
+use Rattle.processor.specs.Obeying.{Runs, finishOf, stoppedOf}
+use Rattle.processor.specs.declared.Finished.{Finished}
 use Rattle.processor.proofs.KeepLaws.{step-good}
 use Rattle.processor.proofs.ObeyLaws.{stepped-stopped}
 
@@ -45,13 +46,13 @@ module _ (g : Geometry) (r : Row) where
   -- a spent budget, or a pane that does not run, leaves all as it is
   pub onward-zero : (f : Finish) → onward 0 f ≡ f
   unfolding onward follow runs
-  onward-zero f = addCounts-idle (f .count) (f .hits) (f .pane) (f .screen) (f .store)
+  onward-zero f = addCounts-idle (f .count) (f .paint) (f .pane) (f .screen) (f .store)
 
   pub onward-idle : (n : ℕ) (f : Finish) → (f .pane .progress .status ≡ statusRunning → ⊥) → onward n f ≡ f
   unfolding onward follow
   onward-idle n f h =
-      ap (addCounts (f .count) (f .hits)) (runs-idle g r n (f .pane) (f .screen) (f .store) (ne-eqb (f .pane .progress .status) statusRunning h))
-      ∙ addCounts-idle (f .count) (f .hits) (f .pane) (f .screen) (f .store)
+      ap (addCounts (f .count) (f .paint)) (runs-idle g r n (f .pane) (f .screen) (f .store) (ne-eqb (f .pane .progress .status) statusRunning h))
+      ∙ addCounts-idle (f .count) (f .paint) (f .pane) (f .screen) (f .store)
 
   -- one step of a running pane, and then one command less
   pub onward-step : (n m h : ℕ) (p : Pane) (s t : List ℕ) (k j : ℕ) (q : Pane) (s′ t′ : List ℕ) → p .progress .status ≡ statusRunning
@@ -71,14 +72,14 @@ module _ (g : Geometry) (r : Row) where
       ∙ (λ i. finish (add-zero m i) (add-zero h i) q s t)
 
 -- what holds at the loop's head
-pub record Running (g : Geometry) (r : Row) (budget : ℕ) (p : Pane) (screen₀ store₀ screen store : List ℕ) (q : Pane) (count hits rest : ℕ) : Type 0 where
+pub record Running (g : Geometry) (r : Row) (budget : ℕ) (p : Pane) (screen₀ store₀ screen store : List ℕ) (q : Pane) (count paint rest : ℕ) : Type 0 where
   pub sound : Sound g r q (length screen) (length store)
   pub bytes : (k : ℕ) → getD store k 0 < 256
   pub wide : length screen ≡ length screen₀
   pub tall : length store ≡ length store₀
   pub spent : count + rest ≤ budget
-  pub few : hits + mostDots * rest ≤ mostDots * budget
-  pub same : onward g r rest (finish count hits q screen store) ≡ runs g r budget p screen₀ store₀
+  pub few : paint ≤ count * mostPixels
+  pub same : onward g r rest (finish count paint q screen store) ≡ runs g r budget p screen₀ store₀
 
 -- a step keeps the pane sound
 pub sound-step : {g : Geometry} {r : Row} {p q : Pane} (s t s′ t′ : List ℕ) (k j : ℕ) → p .progress .status ≡ statusRunning
@@ -89,3 +90,12 @@ sound-step {g = g} {r = r} {p = p} s t s′ t′ k j e b h wide tall same = reco
   placed = rw (wide, tall) (h .placed);
   good = rw (ap (λ (f : Finish). f .pane) same) (step-good g r p (h .good) (pixels (paneSurface g r) s) t e b);
 }
+
+-- where a run ends: what it leaves, and that its pixels fit
+module _ {g : Geometry} {r : Row} {budget : ℕ} {p : Pane} {screen store screen′ store′ : List ℕ} {s : Finished} (rest : ℕ) where
+  pub run-ends : budget < 2 ^ 32 → s .count + rest ≤ budget → s .paint ≤ s .count * mostPixels
+      → finishOf s screen′ store′ ≡ runs g r budget p screen store → Runs g r budget p screen store s screen′ store′
+  run-ends wide spent few e = record {
+    leaves = e;
+    paint = subst (PaintFits budget) e (record { commands = omega arith; budgeted = wide; limited = few; fits = omega arith });
+  }

@@ -3,9 +3,8 @@
 ghost use mathlib.Core.Path.{_≡_};
 ghost use lib.ListN.{length};
 ghost use Rattle.model.specs.Commands.{Addressed};
-ghost use Rattle.model.specs.Runs.{runs};
 ghost use Rattle.perform.specs.Performing.{Sound};
-ghost use Rattle.processor.specs.Obeying.{Obeys, finishedWith, finishOf, stoppedOf};
+ghost use Rattle.processor.specs.Obeying.{Obeys, Runs, finishedWith, stoppedOf};
 use model::Command;
 use model::Context;
 use model::Decoded;
@@ -15,18 +14,18 @@ use model::STATUS_RUNNING;
 use perform::perform;
 use state_commands::control;
 
-// The record after a command or a run, the commands done, and how many of their pixels were visible.
+// The record after a command or a run, the commands done, and how many pixels they drew.
 pub struct Finished {
     pub pane: Pane,
     pub count: u32,
-    pub hits: usize,
+    pub paint: u64,
 }
 
 // What a command or a run answers.
-fn finish_with(pane: Pane, count: u32, hits: usize) -> Finished
-    ensures { λ s. ⌜ s ≡ finishedWith pane count hits ⌝ }
+fn finish_with(pane: Pane, count: u32, paint: u64) -> Finished
+    ensures { λ s. ⌜ s ≡ finishedWith pane count paint ⌝ }
 {
-    Finished { pane, count, hits }
+    Finished { pane, count, paint }
 }
 
 // A command tried: faulty, it is only recorded, and else it is done and counts one.
@@ -48,7 +47,7 @@ fn obey(screen: &mut [u8], store: &mut [u8], f: Frame, p: Pane, c: Command, next
         return finish_with(control::faulted(p, fault), 0, 0);
     }
     let d = perform(screen, store, f, p, c, next);
-    finish_with(d.pane, 1, d.hits)
+    finish_with(d.pane, 1, d.paint)
 }
 
 // The record after an end word, or after a fault of the decoder.
@@ -66,27 +65,27 @@ fn stopped(p: Pane, d: Decoded) -> Pane
 // decoder, ends the run.
 pub fn run(screen: &mut [u8], store: &mut [u8], f: Frame, p: Pane, budget: u32) -> Finished
     requires { ⌜ Sound (f .geometry) (f .row) p (length (now screen)) (length (now store)) ⌝ }
-    ensures { λ s. ⌜ finishOf s (now (screen .exit)) (now (store .exit))
-        ≡ runs (f .geometry) (f .row) budget p (now (screen .entry)) (now (store .entry)) ⌝ }
+    ensures { λ s. ⌜ Runs (f .geometry) (f .row) budget p (now (screen .entry)) (now (store .entry))
+        s (now (screen .exit)) (now (store .exit)) ⌝ }
 {
     let mut q = p;
     let mut count: u32 = 0;
-    let mut hits = 0;
+    let mut paint: u64 = 0;
     let mut rest = budget;
     while 0 < rest {
         if q.progress.status != STATUS_RUNNING {
-            return finish_with(q, count, hits);
+            return finish_with(q, count, paint);
         }
         let d = decoder::decode(store, q.progress.pointer);
         let Decoded::Do(c, next) = d else {
             let end = stopped(q, d);
-            return finish_with(end, count, hits);
+            return finish_with(end, count, paint);
         };
         let s = obey(screen, store, f, q, c, next);
         q = s.pane;
         count += s.count;
-        hits += s.hits;
+        paint += s.paint;
         rest -= 1;
     }
-    finish_with(q, count, hits)
+    finish_with(q, count, paint)
 }

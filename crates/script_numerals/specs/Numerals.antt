@@ -15,11 +15,11 @@ unfoldable pub numeral : ℕ → ℕ → ℕ → List ℕ
 numeral base zero n = glyph n ∷ []
 numeral base (suc k) n = cond (ltb n base) (glyph n ∷ []) (numeral base k (n / base) ++ (glyph (n % base) ∷ []))
 
--- 32 bits have at most ten decimal digits, and eight hex digits
+-- 64 bits have at most twenty decimal digits
 abbrev pub decimalText : ℕ → List ℕ
-decimalText n = numeral 10 9 n
+decimalText n = numeral 10 19 n
 
--- "Pointers print in hex"
+-- "Pointers print in hex"; 32 bits have at most eight hex digits
 abbrev pub hexText : ℕ → List ℕ
 hexText n = numeral 16 7 n
 

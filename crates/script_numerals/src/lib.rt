@@ -35,17 +35,17 @@ fn append(out: &mut [u8], at: usize, bytes: &[u8]) -> usize
 }
 
 // Writes a decimal number, without a comma before it.
-fn decimal(out: &mut [u8], at: usize, n: u32) -> usize
+fn decimal(out: &mut [u8], at: usize, n: u64) -> usize
     requires { ⌜ at ≤ length (now out) ⌝ }
     ensures { λ r. ⌜ Wrote (now (out .entry)) at (decimalText n) (now (out .exit)) r ⌝ }
 {
     let mut digits = [0u8; 20];
-    let k = io::decimal(n as u64, &mut digits);
+    let k = io::decimal(n, &mut digits);
     append(out, at, &digits[..k])
 }
 
 // Writes a comma and a decimal number.
-pub fn value(out: &mut [u8], at: usize, n: u32) -> usize
+pub fn value(out: &mut [u8], at: usize, n: u64) -> usize
     requires { ⌜ at ≤ length (now out) ⌝ }
     ensures { λ r. ⌜ Wrote (now (out .entry)) at (commaSeparated (decimalText n ∷ [])) (now (out .exit)) r ⌝ }
 {
@@ -70,7 +70,7 @@ pub fn coordinate(out: &mut [u8], at: usize, pattern: u16) -> usize
     ensures { λ r. ⌜ Wrote (now (out .entry)) at (commaSeparated (signedText (coord pattern) ∷ []))
         (now (out .exit)) r ⌝ }
 {
-    let n = pattern as u32;
+    let n = pattern as u64;
     if n < 0x8000 {
         return value(out, at, n);
     }
@@ -84,5 +84,5 @@ pub fn flag(out: &mut [u8], at: usize, set: bool) -> usize
     requires { ⌜ at ≤ length (now out) ⌝ }
     ensures { λ r. ⌜ Wrote (now (out .entry)) at (commaSeparated (decimalText (digit set) ∷ [])) (now (out .exit)) r ⌝ }
 {
-    value(out, at, set as u32)
+    value(out, at, set as u64)
 }

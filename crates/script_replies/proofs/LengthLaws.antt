@@ -20,13 +20,13 @@ numeral-length base (suc k) n =
     cond-ind (λ (l : List ℕ). length l ≤ suc (suc k)) (ltb n base) _ _ (λ e. omega arith)
     (λ e. omega (arith, length-append (numeral base k (n / base)) (glyph (n % base) ∷ []), numeral-length base k (n / base)))
 
-decimal-length : (n : ℕ) → length (decimalText n) ≤ 10
-decimal-length n = numeral-length 10 9 n
+decimal-length : (n : ℕ) → length (decimalText n) ≤ 20
+decimal-length n = numeral-length 10 19 n
 
 hex-length : (n : ℕ) → length (hexText n) ≤ 8
 hex-length n = numeral-length 16 7 n
 
-signed-length : (z : ℤ) → length (signedText z) ≤ 11
+signed-length : (z : ℤ) → length (signedText z) ≤ 21
 signed-length (pos n) = omega (arith, decimal-length n)
 signed-length (negsuc n) = omega (arith, decimal-length (suc n))
 
@@ -39,27 +39,27 @@ commaSeparated-length :
 unfolding commaSeparated
 commaSeparated-length t ts m n h k = omega (arith, length-append t (commaSeparated ts))
 
--- a value takes at most twelve bytes with its comma
-value-length : (v : Value) → length (valueText v) ≤ 11
+-- a value takes at most 22 bytes with its comma
+value-length : (v : Value) → length (valueText v) ≤ 21
 value-length (number z) = signed-length z
 value-length (address a) = omega (arith, hex-length a)
 
-values-length : (vs : List Value) → length (valuesText vs) ≤ 12 * length vs
+values-length : (vs : List Value) → length (valuesText vs) ≤ 22 * length vs
 unfolding commaSeparated
 values-length [] = omega arith
 values-length (v ∷ vs) =
-    omega (arith, commaSeparated-length (valueText v) (valueTexts vs) 11 (12 * length vs) (value-length v) (values-length vs))
+    omega (arith, commaSeparated-length (valueText v) (valueTexts vs) 21 (22 * length vs) (value-length v) (values-length vs))
 
 -- a refusal, or acceptance with at most seven values
 abbrev pub Short : Response → Type 0
 Short (refusedWith n) = Unit {0}
 Short (acceptedWith vs) = length vs ≤ 7
 
-response-length : (r : Response) → Short r → length (responseText r) ≤ 94
+response-length : (r : Response) → Short r → length (responseText r) ≤ 156
 unfolding commaSeparated numeral
-response-length (refusedWith n) h = omega (arith, commaSeparated-length (decimalText n) [] 10 0 (decimal-length n) (omega arith))
+response-length (refusedWith n) h = omega (arith, commaSeparated-length (decimalText n) [] 20 0 (decimal-length n) (omega arith))
 response-length (acceptedWith vs) h =
-    omega (arith, commaSeparated-length (decimalText 0) (valueTexts vs) 1 (12 * length vs) (omega arith) (values-length vs))
+    omega (arith, commaSeparated-length (decimalText 0) (valueTexts vs) 1 (22 * length vs) (omega arith) (values-length vs))
 
 -- such a reply, with its letter and its line feed
 pub reply-length : (letter : ℕ) (r : Response) → Short r → length (replyText letter r) ≤ mostReply

@@ -32,7 +32,7 @@ replyText letter r = letter ∷ (responseText r ++ (lineFeed ∷ []))
 
 -- no reply takes more bytes
 abbrev pub mostReply : ℕ
-mostReply = 96
+mostReply = 160
 
 abbrev pub questionMark : ℕ
 questionMark = 63

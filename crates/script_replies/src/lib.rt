@@ -18,16 +18,17 @@ ghost use Rattle.script_numerals.specs.Numerals.{Wrote};
 ghost use Rattle.script_replies.specs.Replies.{valuesText, responseText, replyText, malformedText};
 
 // The most bytes that a reply takes.
-pub const MOST_REPLY: usize = 96;
+pub const MOST_REPLY: usize = 160;
 
-// The values of run: commands, status, fault.
+// The values of run: commands, status, fault, pixels.
 fn ran(out: &mut [u8], at: usize, r: Ran) -> usize
     requires { ⌜ at ≤ length (now out) ⌝ }
     ensures { λ end. ⌜ Wrote (now (out .entry)) at (valuesText (ranValues r)) (now (out .exit)) end ⌝ }
 {
-    let commands = value(out, at, r.commands);
-    let status = value(out, commands, r.status as u32);
-    value(out, status, r.fault as u32)
+    let commands = value(out, at, r.commands as u64);
+    let status = value(out, commands, r.status as u64);
+    let fault = value(out, status, r.fault as u64);
+    value(out, fault, r.pixels)
 }
 
 // The first values of look: status, fault, pointer.
@@ -35,8 +36,8 @@ fn progress(out: &mut [u8], at: usize, p: Progress) -> usize
     requires { ⌜ at ≤ length (now out) ⌝ }
     ensures { λ r. ⌜ Wrote (now (out .entry)) at (valuesText (progressValues p)) (now (out .exit)) r ⌝ }
 {
-    let status = value(out, at, p.status as u32);
-    let fault = value(out, status, p.fault as u32);
+    let status = value(out, at, p.status as u64);
+    let fault = value(out, status, p.fault as u64);
     pointer(out, fault, p.pointer)
 }
 
@@ -61,10 +62,10 @@ fn judged(out: &mut [u8], at: usize, verdict: Verdict) -> usize
     match verdict {
         Verdict::Clean(walked) => {
             let clean = value(out, at, 0);
-            value(out, clean, walked)
+            value(out, clean, walked as u64)
         }
         Verdict::Found(fault, address) => {
-            let found = value(out, at, fault as u32);
+            let found = value(out, at, fault as u64);
             pointer(out, found, address)
         }
     }
@@ -76,7 +77,7 @@ fn values(out: &mut [u8], at: usize, reply: Reply) -> usize
     ensures { λ r. ⌜ Wrote (now (out .entry)) at (responseText (response reply)) (now (out .exit)) r ⌝ }
 {
     match reply {
-        Reply::Refused(number) => value(out, at, number as u32),
+        Reply::Refused(number) => value(out, at, number as u64),
         Reply::Done => value(out, at, 0),
         Reply::Ran(r) => {
             let zero = value(out, at, 0);
@@ -88,7 +89,7 @@ fn values(out: &mut [u8], at: usize, reply: Reply) -> usize
         }
         Reply::Value(pixel) => {
             let zero = value(out, at, 0);
-            value(out, zero, pixel as u32)
+            value(out, zero, pixel as u64)
         }
         Reply::Judged(verdict) => {
             let zero = value(out, at, 0);

@@ -17,6 +17,7 @@ use Rattle.model.specs.Numbers.{statusRunning}
 use Rattle.model.specs.Replies.{Response}
 use Rattle.model.specs.Runs.{Finish, runs}
 use Rattle.model.specs.Calls.{State, Call, put, start, run, look, pixel, peek, clear, judge, Request, on, part, ownRefusal, refusal, recordOf, onPane, exec}
+use Rattle.model.specs.Calls.{ranOf}
 use Rattle.model.proofs.Decisions.{split, cond-true}
 use Rattle.model.proofs.CallLaws.{exec-refused}
 use Rattle.model.proofs.QuietLaws.{Quiet, looks, sees, peeks, judges, exec-quiet}
@@ -74,10 +75,10 @@ module _ (g : Geometry) (k : ℕ) (r : Row) (store : List ℕ) (bytes : (i : ℕ
     }
 
     accepted-reply : (P : Ran → Type 0)
-        → ((p : Pane) (i count : ℕ) → Due g r store v i p → P (record { commands = count; status = p .progress .status; fault = p .progress .fault }))
+        → ((e : Finish) (i : ℕ) → Due g r store v i (e .pane) → P (ranOf e))
         → refusal s (on k (run m)) ≡ 0 → RunReply P (exec s (on k (run m)) .reply)
     unfolding onPane f
-    accepted-reply P from e = subst (λ (a : Response). RunReply P a) (sym (f-after e .reply)) (ran _ (from (f .pane) (n - m) (f .count) (f-due .0 .due)))
+    accepted-reply P from e = subst (λ (a : Response). RunReply P a) (sym (f-after e .reply)) (ran _ (from f (n - m) (f-due .0 .due)))
 
     -- refused, it is there already
     refused-run : (i : ℕ) → Due g r store v i (recordOf s k) → (refusal s (on k (run m)) ≡ 0 → ⊥) → i ≡ 0
@@ -94,7 +95,7 @@ module _ (g : Geometry) (k : ℕ) (r : Row) (store : List ℕ) (bytes : (i : ℕ
 
     -- its reply: refused, or one of which holds what holds of every record with that verdict due
     pub run-reply : (P : Ran → Type 0)
-        → ((p : Pane) (i count : ℕ) → Due g r store v i p → P (record { commands = count; status = p .progress .status; fault = p .progress .fault }))
+        → ((e : Finish) (i : ℕ) → Due g r store v i (e .pane) → P (ranOf e))
         → RunReply P (exec s (on k (run m)) .reply)
     run-reply P from = split (eqb (refusal s (on k (run m))) 0) (λ t. accepted-reply P from (eqb-true _ 0 t))
         (λ t. rw (exec-refused s (on k (run m)) (eqb-false (refusal s (on k (run m))) 0 t)) (refused _))

@@ -125,7 +125,7 @@ module _ (s : State) (k a : ℕ) (lent : Lent s) where
         record {
           never = clean-unfaulted g r (storeOf s k) p (clean-with .rest) (suc n - budgets k cs) (w .due);
           replies = λ m. run-reply g k r (storeOf s k) bytes (Clean (clean-with .rest)) _ m (after (begun s k a) cs) w (λ x. x .status ≢ statusFaulted)
-              (λ q i count h. clean-unfaulted g r (storeOf s k) q (clean-with .rest) i h);
+              (λ e i h. clean-unfaulted g r (storeOf s k) (e .pane) (clean-with .rest) i h);
           ends = λ l. due-reached g r (storeOf s k) p (Clean (clean-with .rest)) n (budgets k cs) l (w .due);
           running = λ l. due-running g r (storeOf s k) p (Clean (clean-with .rest)) n (budgets k cs) l (w .due);
         }
@@ -144,7 +144,7 @@ module _ (s : State) (k a : ℕ) (lent : Lent s) where
           met = λ l. due-reached g r (storeOf s k) p (Found f at) (found-walked .commands) (budgets k cs) l (w .due);
           running = λ l. due-running g r (storeOf s k) p (Found f at) (found-walked .commands) (budgets k cs) l (w .due);
           replies = λ m. run-reply g k r (storeOf s k) bytes (Found f at) _ m (after (begun s k a) cs) w
-              (λ x. (x .status ≢ statusEnded) × (x .status ≡ statusFaulted → x .fault ≡ f)) (λ q i count h. found-alone g r (storeOf s k) q f at i h);
+              (λ x. (x .status ≢ statusEnded) × (x .status ≡ statusFaulted → x .fault ≡ f)) (λ e i h. found-alone g r (storeOf s k) (e .pane) f at i h);
         }
 
     found : Foretold (begun s k a) k f at

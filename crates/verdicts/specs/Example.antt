@@ -134,9 +134,9 @@ abbrev pub pairCalls : List Request
 pairCalls =
     on 0 clear ∷ on 0 (start 0x22) ∷ on 0 (run 1) ∷ on 0 (judge 0) ∷ on 0 (run 1) ∷ on 0 (run 1) ∷ on 0 look ∷ []
 
--- commands done, status, fault
-abbrev pub ranReply : ℕ → ℕ → ℕ → Response
-ranReply n status fault = acceptedWith (natural n ∷ natural status ∷ natural fault ∷ [])
+-- commands done, status, fault, pixels drawn
+abbrev pub ranReply : ℕ → ℕ → ℕ → ℕ → Response
+ranReply n status fault pixels = acceptedWith (natural n ∷ natural status ∷ natural fault ∷ natural pixels ∷ [])
 
 -- status, fault, pointer, and the position (x,0); no flag
 abbrev pub lookReply : ℕ → ℕ → ℕ → ℕ → Response
@@ -146,14 +146,15 @@ lookReply status fault pointer x =
 
 abbrev pub pageReplies : List Response
 pageReplies =
-    -- budgets that add to 12 leave it running; one more ends it, and then no run is accepted
-    acceptedWith [] ∷ acceptedWith [] ∷ ranReply 5 1 0 ∷ foundReply 31 0x3A ∷ ranReply 7 1 0 ∷ ranReply 0 2 0
+    -- budgets that add to 12 leave it running, its two POINTs drawn by the second run; one more ends it, and then
+    -- no run is accepted
+    acceptedWith [] ∷ acceptedWith [] ∷ ranReply 5 1 0 0 ∷ foundReply 31 0x3A ∷ ranReply 7 1 0 2 ∷ ranReply 0 2 0 0
     ∷ refusedWith 4 ∷ lookReply 2 0 0x0C 2 ∷ []
 
 abbrev pub pairReplies : List Response
 pairReplies =
     -- one command, and then the fault that the judge named, where it named it
-    acceptedWith [] ∷ acceptedWith [] ∷ ranReply 1 1 0 ∷ cleanReply 12 ∷ ranReply 0 3 23 ∷ refusedWith 4
+    acceptedWith [] ∷ acceptedWith [] ∷ ranReply 1 1 0 0 ∷ cleanReply 12 ∷ ranReply 0 3 23 0 ∷ refusedWith 4
     ∷ lookReply 3 23 0x30 0 ∷ []
 
 -- the page amid its run: cleared, started, five commands done

@@ -8,6 +8,7 @@ mod data;
 mod dice;
 mod judges;
 mod lists;
+mod paint;
 mod peeks;
 mod scripts;
 mod seasoning;

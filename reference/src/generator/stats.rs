@@ -1,6 +1,8 @@
 //! What random scripts do: how often each command is done, each fault and each
-//! refusal comes, and what POLYLINEs are like.
+//! refusal comes, what POLYLINEs are like, and which wrong rules for the pixels
+//! of a run they tell from the right one.
 
+use super::paint::{Paint, Watch};
 use super::script;
 use crate::bitmaps::{Bitmap, PANE_ADDRESS};
 use crate::calls::lend;
@@ -23,6 +25,8 @@ pub struct Stats {
     pub commands: BTreeMap<String, (u64, u64)>,
     /// POLYLINEs that changed a pixel or the pick flag, by what was special.
     pub polylines: BTreeMap<&'static str, u64>,
+    /// Scripts in which some run would report other pixels by a wrong rule.
+    pub wrong_pixels: BTreeMap<&'static str, u64>,
     pub faults: BTreeMap<u32, u64>,
     /// Faults by the command's opcode byte.
     pub fault_opcodes: BTreeMap<(u32, u8), u64>,
@@ -66,9 +70,10 @@ impl Stats {
         let mut done = 0;
         let mut drawn = vec![false; LARGEST_STORES as usize];
         let mut before: Vec<&[u8]> = Vec::new();
+        let mut paint = Paint::default();
         for line in lines_of(text) {
             self.lines += 1;
-            done += self.watch_run(&session, line);
+            done += self.watch_run(&session, line, &mut paint);
             let stores = session.stores.clone();
             let Some(reply) = session.line(line) else {
                 self.malformed += 1;
@@ -81,6 +86,9 @@ impl Stats {
                 .and_then(|field| field.parse().ok())
                 .unwrap_or(0);
             *self.refusals.entry((letter, number)).or_default() += 1;
+            if let Some(pane) = started(&reply, line) {
+                paint.since_start[pane] = 0;
+            }
             if letter == 'x' && number == 0 {
                 self.pixels += 1;
                 self.pixels_not_zero += u64::from(fields.last() != Some(&"0"));
@@ -108,6 +116,9 @@ impl Stats {
                 self.trapped += u64::from(fields[8] == "1");
             }
         }
+        for rule in paint.told {
+            *self.wrong_pixels.entry(rule).or_default() += 1;
+        }
         self.most_commands = self.most_commands.max(done);
         self.scripts_with_few += u64::from(done < 20);
         if let Some(console) = &session.console {
@@ -117,7 +128,7 @@ impl Stats {
     }
 
     /// If the line is a run, does it on a copy and counts each command.
-    fn watch_run(&mut self, session: &Session, line: &[u8]) -> u64 {
+    fn watch_run(&mut self, session: &Session, line: &[u8], paint: &mut Paint) -> u64 {
         let fields: Vec<&[u8]> = line.split(|byte| *byte == b',').collect();
         let [b"r", pane, budget] = fields[..] else {
             return 0;
@@ -126,15 +137,19 @@ impl Stats {
             return 0;
         };
         let mut copy = session.clone();
-        let Some(console) = copy.console.as_mut() else {
+        let Some(console) = &session.console else {
             return 0;
         };
         if pane >= console.row_count || console.panes[pane as usize].status != RUNNING {
             return 0;
         }
+        let mut watch = Watch::new(paint, pane as usize);
         let mut done = 0;
         while done < u64::from(budget) {
-            let (screen, stores) = (copy.screen.clone(), copy.stores.clone());
+            let before = copy.clone();
+            let Some(console) = copy.console.as_mut() else {
+                break;
+            };
             let mut lent = lend(console, &mut copy.screen, &mut copy.stores, pane as usize);
             let (flag, pointer) = (lent.record.pick_flag, lent.record.pointer);
             let from = (lent.record.x, lent.record.y);
@@ -144,14 +159,17 @@ impl Stats {
             let picked = !flag && lent.record.pick_flag;
             let opcode = lent.store.get(pointer as usize + 1).copied().unwrap_or(0);
             let special = match outcome {
-                Outcome::Done(Command::Polyline { address, count }) => {
-                    special_of(lent.record, from, &array(&lent, address, count))
-                }
+                Outcome::Done {
+                    command: Command::Polyline { address, count },
+                    ..
+                } => special_of(lent.record, from, &array(&lent, address, count)),
                 _ => Vec::new(),
             };
+            watch.command(&before, outcome);
             match outcome {
-                Outcome::Done(command) => {
-                    let changed = picked || copy.screen != screen || copy.stores != stores;
+                Outcome::Done { command, .. } => {
+                    let changed =
+                        picked || copy.screen != before.screen || copy.stores != before.stores;
                     for name in special.into_iter().filter(|_| changed) {
                         *self.polylines.entry(name).or_default() += 1;
                     }
@@ -174,6 +192,7 @@ impl Stats {
                 }
             }
         }
+        watch.end();
         done
     }
 
@@ -225,6 +244,10 @@ impl Stats {
         for (name, count) in &self.polylines {
             text.push(format!("  {name}: {count}"));
         }
+        text.push("wrong rule for a run's pixels: scripts that tell it".to_string());
+        for (rule, count) in &self.wrong_pixels {
+            text.push(format!("  {rule}: {count}"));
+        }
         text.push("fault: times, by opcode".to_string());
         for (number, count) in &self.faults {
             let opcodes: Vec<String> = self
@@ -255,6 +278,14 @@ fn follows_judge(before: &[&[u8]], line: &[u8]) -> bool {
         return false;
     };
     judged == started && clear.starts_with(b"c") && line.starts_with(b"r")
+}
+
+/// The pane of an accepted start.
+fn started(reply: &str, line: &[u8]) -> Option<usize> {
+    let pane = line.split(|byte| *byte == b',').nth(1)?;
+    (reply == "g,0")
+        .then(|| decimal(pane))?
+        .map(|pane| pane as usize)
 }
 
 /// Where the byte of an accepted peek stands in the stores.

@@ -44,7 +44,7 @@ returns-3 c =
     let own = lent .before .before .before .before .before .before .before in
     let d = admitted own in
     exec-ran _ _ _ (d .before .before .admit .ensures) (d .if1 .left) (own .before .run-refusal .ensures) (own .if2 .left)
-    (lent .run .result) _ _ (lent .run .ensures) (rw (c .before .ran .ensures) at (c .with-record .ensures))
+    (lent .run .result) _ _ (lent .run .ensures .leaves) (rw (c .before .ran .ensures) at (c .with-record .ensures))
 
 pub run-spec : {M : Type 1} → statement M
 run-spec =

@@ -35,7 +35,7 @@ returns-2 c =
     (record {
       leaves = d .perform .ensures .leaves ∙ obeyed-done _ _ _ _ _ _ _ (sym (checked .fault-of .ensures) ∙ d .before .before .before .if1 .left);
       one = omega arith;
-      few = d .perform .ensures .few;
+      few = omega (arith, d .perform .ensures .few);
     })
 
 pub obey-spec : {M : Type 1} → statement M

@@ -1,5 +1,5 @@
--- `processor::run` meets its contract. The invariant: what is left to run gives the same end, the pane is sound, and the commands counted and the
--- budget left are at most the budget. The measure is the budget left.
+-- `processor::run` meets its contract. The invariant: what is left to run gives the same end, the pane is sound, the commands counted and the
+-- budget left are at most the budget, and each command drew at most the most pixels. The measure is the budget left.
 use mathlib.Core.Path.{_≡_, refl, sym, ap, _∙_}
 use mathlib.Core.Logic.{_⊎_, ⊎-elim}
 use Prim.Native.Nat.{ℕ, suc, _-_}
@@ -17,16 +17,16 @@ use Rattle.decoder.proofs.DecodeLaws.{decode-addressed}
 use Rattle.perform.specs.Performing.{finish}
 use Rattle.processor.specs.Obeying.{obeyed}
 use Rattle.processor.proofs.ObeyLaws.{stepped-do}
-use Rattle.processor.proofs.RunningLaws.{Running, onward, onward-none, onward-zero, onward-idle, onward-step, onward-stopped, sound-step}
+use Rattle.processor.proofs.RunningLaws.{Running, onward, onward-none, onward-zero, onward-idle, onward-step, onward-stopped, sound-step, run-ends}
 use Rattle.processor.proofs.run.Statement.{statement}
 use Rattle.processor.proofs.run.Tie as tie
 
 abbrev Inv-loop : tie.InvT-loop
-Inv-loop screen₀ store₀ f budget q₀ count₀ hits₀ rest₀ screen store q count hits rest =
-    Running (f .geometry) (f .row) budget q₀ screen₀ store₀ screen store q count hits rest
+Inv-loop screen₀ store₀ f budget q₀ count₀ paint₀ rest₀ screen store q count paint rest =
+    Running (f .geometry) (f .row) budget q₀ screen₀ store₀ screen store q count paint rest
 
 abbrev μ-loop : tie.MeasureT-loop
-μ-loop screen₀ store₀ f budget q₀ count₀ hits₀ rest₀ screen store q count hits rest = rest
+μ-loop screen₀ store₀ f budget q₀ count₀ paint₀ rest₀ screen store q count paint rest = rest
 
 loop-holds : tie.Need-loop-holds Inv-loop μ-loop
 loop-holds c = record {
@@ -50,7 +50,8 @@ returns : tie.Need-returns Inv-loop μ-loop
 returns c =
     let l = c .before .before .before .before .loop in
     rw (c .finish-with .ensures)
-    (sym (onward-idle _ _ (l .rest) (finish (l .count) (l .hits) (l .q) (l .screen) (l .store)) (c .before .if1 .taken)) ∙ l .inv .same)
+    (run-ends (l .rest) (c .before .before .before .before .before .before .before .fits .budget .fits) (l .inv .spent) (l .inv .few)
+    (sym (onward-idle _ _ (l .rest) (finish (l .count) (l .paint) (l .q) (l .screen) (l .store)) (c .before .if1 .taken)) ∙ l .inv .same))
 
 -- ## What stands at the pointer
 
@@ -77,7 +78,7 @@ module _ (c : tie.After-decode Inv-loop μ-loop) where
 
   -- what is left to run, from here
   abbrev so-far : Finish
-  so-far = finish (head .loop .count) (head .loop .hits) (head .loop .q) (head .loop .screen) (head .loop .store)
+  so-far = finish (head .loop .count) (head .loop .paint) (head .loop .q) (head .loop .screen) (head .loop .store)
 
   from-here : onward (start .args .f .geometry) (start .args .f .row) (suc (head .loop .rest - 1)) so-far
       ≡ runs (start .args .f .geometry) (start .args .f .row) (start .args .budget) (start .args .p) (start .args .screen .now) (start .args .store .now)
@@ -105,9 +106,10 @@ returns-2 c =
     let d = e .before .before in
     let l = head d .loop in
     rw (c .finish-with2 .ensures)
-    (sym (onward-stopped (start d .args .f .geometry) (start d .args .f .row) (l .rest - 1) (l .count) (l .hits) (l .q) (e .stopped .result)
+    (run-ends (l .rest) (start d .fits .budget .fits) (l .inv .spent) (l .inv .few)
+    (sym (onward-stopped (start d .args .f .geometry) (start d .args .f .row) (l .rest - 1) (l .count) (l .paint) (l .q) (e .stopped .result)
     (l .screen) (l .store) (d .decode .result) (running d) (decoded d) (no-command (d .decode .result) (e .before .match .keys2)) (e .stopped .ensures))
-    ∙ from-here d)
+    ∙ from-here d))
 
 -- ## A command
 
@@ -145,10 +147,18 @@ add-count c =
     let d = obeyed-at (c .before) in
     record { fits = omega (arith, lap d .loop .inv .spent, d .obey .ensures .one, one-left (asked d), start (asked d) .fits .budget .fits) }
 
-add-hits : tie.Need-add-hits Inv-loop μ-loop
-add-hits c =
+add-paint : tie.Need-add-paint Inv-loop μ-loop
+add-paint c =
     let d = obeyed-at (c .before .before) in
-    omega (arith, lap d .loop .inv .few, d .obey .ensures .few, one-left (asked d), start (asked d) .fits .budget .fits)
+    omega (
+      arith,
+      lap d .loop .inv .few,
+      lap d .loop .inv .spent,
+      d .obey .ensures .few,
+      d .obey .ensures .one,
+      one-left (asked d),
+      start (asked d) .fits .budget .fits,
+    )
 
 sub-rest : tie.Need-sub-rest Inv-loop μ-loop
 sub-rest c = omega (arith, one-left (asked (obeyed-at (c .before .before))))
@@ -168,10 +178,10 @@ loop-again c =
       wide = d .obey .kept .0 ∙ l .inv .wide;
       tall = d .obey .kept .1 .0 ∙ l .inv .tall;
       spent = omega (arith, l .inv .spent, d .obey .ensures .one, one-left (asked d));
-      few = omega (arith, l .inv .few, d .obey .ensures .few, one-left (asked d));
+      few = omega (arith, l .inv .few, d .obey .ensures .few);
       same =
-          sym (onward-step (f .geometry) (f .row) (l .rest - 1) (l .count) (l .hits) (l .q) (l .screen) (l .store)
-          (d .obey .result .count) (d .obey .result .hits) (d .obey .result .pane) _ _ (running (asked d)) e)
+          sym (onward-step (f .geometry) (f .row) (l .rest - 1) (l .count) (l .paint) (l .q) (l .screen) (l .store)
+          (d .obey .result .count) (d .obey .result .paint) (d .obey .result .pane) _ _ (running (asked d)) e)
           ∙ from-here (asked d);
     }
 
@@ -188,11 +198,12 @@ returns-3 c =
     let l = c .before .before .loop in
     let f = c .before .before .before .before .before .args .f in
     let e : l .rest ≡ 0 = omega (arith, c .before .loop-test .left) in
-    let so-far = finish (l .count) (l .hits) (l .q) (l .screen) (l .store) in
+    let so-far = finish (l .count) (l .paint) (l .q) (l .screen) (l .store) in
     rw (c .finish-with3 .ensures)
+    (run-ends (l .rest) (c .before .before .before .before .before .fits .budget .fits) (l .inv .spent) (l .inv .few)
     (sym (onward-zero (f .geometry) (f .row) so-far)
     ∙ ap (λ (n : ℕ). onward (f .geometry) (f .row) n so-far) (sym e)
-    ∙ l .inv .same)
+    ∙ l .inv .same))
 
 pub run-spec : {M : Type 1} → statement M
 run-spec =
@@ -214,7 +225,7 @@ run-spec =
     returns-2
     obey-requires
     add-count
-    add-hits
+    add-paint
     sub-rest
     loop-less
     loop-again

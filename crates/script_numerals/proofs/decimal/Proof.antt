@@ -9,9 +9,9 @@ use Rattle.script_numerals.proofs.decimal.Tie as tie
 returns : tie.Need-returns
 returns c =
     let d = c .before .before .before .before .before in
-    let small : d .before .before .before .args .n < 10 ^ 10 = omega arith in
+    let small : d .before .before .before .args .n < 10 ^ 20 = omega arith in
     rw
-    (numeral-fewest 10 9 _ _ (omega arith) small (d .decimal .ensures .1 .0), ← (d .decimal .ensures .1 .1))
+    (numeral-fewest 10 19 _ _ (omega arith) small (d .decimal .ensures .1 .0), ← (d .decimal .ensures .1 .1))
     (c .before .before .append .ensures)
 
 pub decimal-spec : {M : Type 1} → statement M

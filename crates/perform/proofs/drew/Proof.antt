@@ -1,0 +1,11 @@
+-- `perform::drew` meets its contract: the pixels drawn are those that `paint` answers.
+use mathlib.Core.Path.{refl}
+use borrow.Author.Needs.{needs}
+use Rattle.perform.proofs.drew.Statement.{statement}
+use Rattle.perform.proofs.drew.Tie as tie
+
+returns : tie.Need-returns
+returns c = rw (c .before .before .before .paint .ensures) refl
+
+pub drew-spec : {M : Type 1} → statement M
+drew-spec = tie.close (tie.spec (λ c κs. search needs) returns)
