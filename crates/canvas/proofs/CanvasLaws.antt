@@ -13,6 +13,7 @@ use Rattle.model.specs.declared.Surface.{Surface}
 use Rattle.model.specs.Pixels.{Change, change, changes}
 use Rattle.model.specs.Dots.{Dot, visible, hits, changeOf, keep, changesOf}
 use Rattle.model.proofs.Decisions.{cond-ind}
+use Rattle.model.proofs.BitLaws.{digit-le}
 use Rattle.model.proofs.CallLaws.{change-length}
 use Rattle.model.proofs.DotLaws.{listed-last}
 use Rattle.canvas.specs.declared.Target.{Target}
@@ -104,10 +105,6 @@ pub paintedAll-hits : (t : Target) (ds : List Dot) (c : Canvas) → paintedAll t
 unfolding paintedAll hits
 paintedAll-hits t [] c = omega arith
 paintedAll-hits t (d ∷ ds) c = omega (arith, paintedAll-hits t ds (painted t d c), painted-hits t d c)
-
-digit-le : (b : Bool) → digit b ≤ 1
-digit-le true = omega arith
-digit-le false = omega arith
 
 pub hits-length : (t : Target) (ds : List Dot) → hits (t .area .surface) (t .clip) ds ≤ length ds
 unfolding hits

@@ -1,14 +1,21 @@
 -- Lists of places and of dots, cut at their last or in the middle: what a loop over them needs.
 use mathlib.Core.Path.{_≡_, refl, sym, ap, _∙_}
+use mathlib.Core.Bool.{Bool, true, false}
 use mathlib.Core.List.{List, [], _∷_, _++_}
 use Prim.Native.Nat.{ℕ, zero, suc, _+_}
 use native.Mathlib.Omega.{arith}
 use lib.ListN.{length}
+use Rattle.model.specs.Words.{digit}
 use Rattle.model.specs.Ranges.{listed}
 use Rattle.model.specs.Coordinates.{Place}
 use Rattle.model.specs.Pixels.{Pen, patternSource}
-use Rattle.model.specs.Dots.{Dot, dot}
+use Rattle.model.specs.Dots.{Dot, dot, keep}
 use Rattle.model.specs.Lines.{patterned}
+
+-- one more where it is kept
+pub length-keep : {A : Type 0} (t : Bool) (a : A) (l : List A) → length (keep t a l) ≡ digit t + length l
+length-keep true a l = omega arith
+length-keep false a l = omega arith
 
 pub listed-last : {A : Type 0} (n i : ℕ) (f : ℕ → A) → listed i (suc n) f ≡ listed i n f ++ (f (i + n) ∷ [])
 unfolding listed

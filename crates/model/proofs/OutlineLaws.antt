@@ -14,7 +14,8 @@ use Rattle.model.specs.Coordinates.{Place, at, offset, signAs, same, sam
 use Rattle.model.specs.Dots.{keep}
 use Rattle.model.specs.Lines.{alongX, alongY, walk, visited, once}
 use Rattle.model.proofs.Decisions.{and-false, or-true}
-use Rattle.model.proofs.DotLaws.{listed-last}
+use Rattle.model.proofs.BitLaws.{digit-le}
+use Rattle.model.proofs.DotLaws.{length-keep, listed-last}
 
 -- ## A list walked
 
@@ -37,11 +38,10 @@ pub once-length : (seen l : List Place) → length (once seen l) ≤ length l
 unfolding once
 once-length seen [] = omega arith
 once-length seen (p ∷ ps) =
-    omega (arith, keep-length (cond (visited p seen) false true) p (once (p ∷ seen) ps), once-length (p ∷ seen) ps)
+    omega (arith, length-keep kept p (once (p ∷ seen) ps), digit-le kept, once-length (p ∷ seen) ps)
   where
-    keep-length : (t : Bool) (q : Place) (l : List Place) → length (keep t q l) ≤ suc (length l)
-    keep-length true q l = omega arith
-    keep-length false q l = omega arith
+    kept : Bool
+    kept = cond (visited p seen) false true
 
 pub once-skip : (q : Place) (l seen : List Place) → visited q seen ≡ true → once seen (q ∷ l) ≡ once (q ∷ seen) l
 unfolding once

@@ -3,19 +3,14 @@ use mathlib.Core.Path.{_≡_, refl, ap, _∙_}
 use mathlib.Core.Bool.{Bool, true, false, cond}
 use mathlib.Core.List.{List, [], _∷_}
 use Prim.Native.Nat.{ℕ, _+_}
-use native.Mathlib.Omega.{arith}
 use lib.ListN.{length}
 use Rattle.model.specs.Words.{digit}
 use Rattle.model.specs.Bitmaps.{Surface}
 use Rattle.model.specs.Record.{Pane}
 use Rattle.model.specs.Pixels.{Pen, Change}
-use Rattle.model.specs.Dots.{Clip, Dot, Drawing, keep, visible, changeOf, hits, changesOf}
+use Rattle.model.specs.Dots.{Clip, Dot, Drawing, visible, changeOf, hits, changesOf}
 use Rattle.model.specs.Steps.{madeBy, paintOf}
-
--- one more where it is kept
-length-keep : (t : Bool) (a : Change) (l : List Change) → length (keep t a l) ≡ digit t + length l
-length-keep true a l = omega arith
-length-keep false a l = omega arith
+use Rattle.model.proofs.DotLaws.{length-keep}
 
 -- each visible dot makes one change
 pub length-changes : (s : Surface) (c : Clip) (pen : Pen) (ds : List Dot) → length (changesOf s c pen ds) ≡ hits s c ds

@@ -9,7 +9,7 @@ use lib.Bits.{bitAnd, bitXor, and-shr, and-mod, xor-shr, xor-mod, xor-lt, and-le
 use lib.Dec.{eqb}
 use lib.Pow.{mod-pow-add, shl-shr}
 use Rattle.model.specs.Words.{bit, num, digit}
-use Rattle.model.proofs.BitLaws.{bit-num, num-cong, bit-shr}
+use Rattle.model.proofs.BitLaws.{digit-le, bit-num, num-cong, bit-shr}
 use Rattle.raster.specs.Operations.{muxed, bitField}
 
 -- ## A number of n bits
@@ -27,14 +27,10 @@ num-bit (suc n) x =
     ap₂ (λ (p q : ℕ). p * 2 + q) (num-bit n (x / 2)) (digit-odd (x % 2) (mod-lt x (zero-lt-suc 1)))
     ∙ sym (mod-pow-add x n 1) ∙ ap (λ (k : ℕ). x % 2 ^ k) (add-one n)
 
-digit-lt : (b : Bool) → digit b < 2
-digit-lt true = omega arith
-digit-lt false = omega arith
-
 pub num-lt : (n : ℕ) (f : ℕ → Bool) → num n f < 2 ^ n
 unfolding num
 num-lt zero f = zero-lt-suc 0
-num-lt (suc n) f = omega (arith, num-lt n (λ i. f (suc i)), digit-lt (f 0), pow-suc 2 n)
+num-lt (suc n) f = omega (arith, num-lt n (λ i. f (suc i)), digit-le (f 0), pow-suc 2 n)
 
 -- a number below 2 ^ n is its n bits
 pub num-self : (n : ℕ) {x : ℕ} → x < 2 ^ n → num n (bit x) ≡ x

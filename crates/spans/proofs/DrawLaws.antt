@@ -8,7 +8,7 @@ use native.Mathlib.Omega.{arith}
 use borrow.Author.Tests.{ltb-true, leb-true}
 use lib.Dec.{leb, ltb}
 use lib.ListN.{length}
-use lib.IntN.{ℤ, _+ℤ_}
+use lib.IntN.{_+ℤ_}
 use Rattle.model.specs.Ranges.{listed}
 use Rattle.model.specs.Bitmaps.{Fits}
 use Rattle.model.specs.Coordinates.{index, between}

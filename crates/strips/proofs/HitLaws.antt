@@ -12,7 +12,7 @@ use Rattle.model.specs.Words.{bit, digit}
 use Rattle.model.specs.Dots.{Dot, visible, hits}
 use Rattle.model.specs.declared.Clip.{Clip}
 use Rattle.model.specs.declared.Surface.{Surface}
-use Rattle.model.proofs.BitLaws.{bit-shr}
+use Rattle.model.proofs.BitLaws.{digit-le, bit-shr}
 use Rattle.raster.proofs.BitLaws.{bit-mod}
 use Rattle.strips.specs.Strips.{RotatedLeft}
 use Rattle.strips.specs.Strokes.{shown, patternOn}
@@ -168,10 +168,6 @@ pub shown-le : (on : ℕ → Bool) (n i : ℕ) → shown on i n ≤ n
 unfolding shown
 shown-le on zero i = omega arith
 shown-le on (suc n) i = omega (arith, digit-le (on i), shown-le on n (suc i))
-  where
-    digit-le : (b : Bool) → digit b ≤ 1
-    digit-le true = omega arith
-    digit-le false = omega arith
 
 -- ## The 1s of a word
 

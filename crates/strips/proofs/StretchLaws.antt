@@ -9,7 +9,7 @@ use native.Mathlib.Decide.{decLt}
 use native.Mathlib.Nat.{mul-le-mul-right, div-add-mod', mod-lt}
 use lib.Arith.{digits-div}
 use lib.ListN.{length}
-use Rattle.model.specs.Words.{bit, within, bitAt}
+use Rattle.model.specs.Words.{within, bitAt}
 use Rattle.model.specs.Bitmaps.{gridBit, placeBit, placeShift, Depth, Fits}
 use Rattle.model.specs.declared.Surface.{Surface}
 use Rattle.model.specs.declared.Pen.{Pen}
@@ -17,7 +17,7 @@ use Rattle.model.proofs.Decisions.{holds, split}
 use Rattle.model.proofs.PlaceLaws.{column-in-byte, depth-bounds}
 use Rattle.strips.specs.Stretches.{across, In, Out, Stretched}
 use Rattle.strips.proofs.FieldBits.{Bytes, same-buffers}
-use Rattle.strips.specs.Strokes.{Strokes, strokes}
+use Rattle.strips.specs.Strokes.{Strokes}
 use Rattle.strips.proofs.StrokeLaws.{inked, Beside, Once, places-apart, Stroked}
 
 -- ## Stretches of a row
