@@ -36,6 +36,10 @@ pub and-false : (a b : Bool) → b ≡ false → (a && b) ≡ false
 and-false true b e = e
 and-false false b e = refl
 
+pub and-true : (a b : Bool) → b ≡ true → (a && b) ≡ a
+and-true true b e = e
+and-true false b e = refl
+
 pub and-left : (a b : Bool) → a ≡ false → (a && b) ≡ false
 and-left a b e = rw e
 

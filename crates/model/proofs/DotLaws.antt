@@ -1,4 +1,4 @@
--- Lists of places and of dots, cut at their last or in the middle: what a loop over them needs.
+-- Lists of places and of dots: how many are kept, and lists cut at their last or in the middle, as a loop over them needs it.
 use mathlib.Core.Path.{_≡_, refl, sym, ap, _∙_}
 use mathlib.Core.Bool.{Bool, true, false}
 use mathlib.Core.List.{List, [], _∷_, _++_}

@@ -154,6 +154,9 @@ module _ (g : Geometry) (r : Row) (p : Pane) (good : Good g r p) (pixelOf : ℕ 
 
 -- ## A step
 
+fault-is : {m n : ℕ} → Fault m ≡ Fault n → m ≡ n
+fault-is q = cc
+
 -- what the decoder answers beside a command is a fault 20 or 21
 fetch-fault : (len : ℕ) (s : List ℕ) (at : ℕ) (shape : OpcodeEntry) (f : ℕ) → fetch len s at shape ≡ Fault f → (20 ≤ f) × (f ≤ 30)
 unfolding fetch
@@ -162,9 +165,6 @@ fetch-fault len s at (Known op n) f e = split (ltb len (at + 2 + 2 * n))
     (λ t. let q : 21 ≡ f = fault-is (sym (cond-true _ _ t) ∙ e) in (omega arith, omega arith))
     (λ t. absurd (do-fault (sym (cond-false _ _ t) ∙ e)))
   where
-    fault-is : {m n : ℕ} → Fault m ≡ Fault n → m ≡ n
-    fault-is q = cc
-
     do-fault : {c : Command} {m n : ℕ} → Do c m ≡ Fault n → ⊥
     do-fault q = let z : _≡_ {A = ℕ} 0 1 = cc in omega arith
 
@@ -176,9 +176,6 @@ decode-fault len s at f e = split (eqb (at % 2) 1 || ltb len (at + 2))
     (λ u. absurd (end-fault (sym (cond-true _ _ u) ∙ (sym (cond-false _ _ t) ∙ e))))
     (λ u. fetch-fault len s at (opcodeOf (wordAt s at / 256)) f (sym (cond-false _ _ u) ∙ (sym (cond-false _ _ t) ∙ e))))
   where
-    fault-is : {m n : ℕ} → Fault m ≡ Fault n → m ≡ n
-    fault-is q = cc
-
     end-fault : {n : ℕ} → End ≡ Fault n → ⊥
     end-fault q = let z : _≡_ {A = ℕ} 0 1 = cc in omega arith
 

@@ -14,7 +14,7 @@ use Rattle.raster.specs.Operations.{muxed, bitField}
 
 -- ## A number of n bits
 
-digit-odd : (x : ℕ) → x < 2 → digit (eqb x 1) ≡ x
+pub digit-odd : (x : ℕ) → x < 2 → digit (eqb x 1) ≡ x
 digit-odd zero h = refl
 digit-odd (suc zero) h = refl
 digit-odd (suc (suc x)) h = absurd (not-suc-le-zero (le-of-suc-le-suc (le-of-suc-le-suc h)))
@@ -106,7 +106,7 @@ bit-xor =
 
 -- ## x ^ ((x ^ y) & m) is y where m is 1, else x
 
-mux-bit : (m x y : Bool) → differs x (differs x y && m) ≡ cond m y x
+pub mux-bit : (m x y : Bool) → differs x (differs x y && m) ≡ cond m y x
 mux-bit true true true = refl
 mux-bit true true false = refl
 mux-bit true false true = refl

@@ -141,7 +141,7 @@ module _ (u : Surface) (s : List ℕ) (f : Fits u s) where
       (omega arith) (omega arith) in
       omega (arith, f .long)
 
-  places-apart : (x y x′ y′ : ℕ) → x < u .width → x′ < u .width → (x ≢ x′) ⊎ (y ≢ y′)
+  pub places-apart : (x y x′ y′ : ℕ) → x < u .width → x′ < u .width → (x ≢ x′) ⊎ (y ≢ y′)
       → (placeBit u x y + u .bits ≤ placeBit u x′ y′) ⊎ (placeBit u x′ y′ + u .bits ≤ placeBit u x y)
   unfolding placeBit
   places-apart x y x′ y′ h h′ n =

@@ -17,7 +17,7 @@ use Rattle.model.specs.Dots.{Dot, something, visible, hits, changesOf}
 use Rattle.model.specs.declared.Clip.{Clip}
 use Rattle.model.specs.declared.Surface.{Surface}
 use Rattle.model.specs.declared.Pen.{Pen}
-use Rattle.model.proofs.Decisions.{split, both-true, and-false, cond-true, cond-false}
+use Rattle.model.proofs.Decisions.{split, both-true, and-false, and-true, cond-true, cond-false}
 use Rattle.coordinates.specs.Offsets.{directed, unbiased}
 use Rattle.coordinates.specs.declared.Edges.{Edges}
 use Rattle.coordinates.proofs.EdgeLaws.{within-true, within-early, within-late, unbiased-on, unbiased-back, between-on, between-back, between-holds}
@@ -61,10 +61,6 @@ visible-lies : (u : Surface) (clip : Clip) (pen : Pen) (s : Span) (i : ℕ)
     → visible u clip (spanDot pen s i) ≡ (something (spanDot pen s i .source) && lies u clip (spanPlace s i))
 unfolding visible spanDot
 visible-lies u clip pen s i = refl
-
-and-lies : (a b : Bool) → b ≡ true → (a && b) ≡ a
-and-lies true b e = e
-and-lies false b e = refl
 
 -- a column counted from the right
 from-right : (x i j k : ℕ) → k < j - i → j + 65535 ≤ x → x - (i + k) - 65536 ≡ x + 1 - j - 65536 + (j - i - 1 - k)
@@ -144,7 +140,7 @@ module _ (u : Surface) (clip : Clip) (s : Span) (e : Edges) (wide : clip .xmax <
     module _ (pen : Pen) where
       -- a visible pixel is drawn where its pattern has a source
       sights : (k : ℕ) → k < e .second - e .first → visible u clip (spanDot pen s (e .first + k)) ≡ something (spanDot pen s (e .first + k) .source)
-      sights k l = visible-lies u clip pen s (e .first + k) ∙ and-lies _ _ (inside (e .first + k) (omega arith) (omega arith))
+      sights k l = visible-lies u clip pen s (e .first + k) ∙ and-true _ _ (inside (e .first + k) (omega arith) (omega arith))
 
       hidden : (k : ℕ) → k < s .count → (k < e .first) ⊎ (e .first + (e .second - e .first) ≤ k) → visible u clip (spanDot pen s k) ≡ false
       hidden k l (inl h) = visible-lies u clip pen s k ∙ and-false (something (spanDot pen s k .source)) _ (outside k l (inl h))

@@ -11,7 +11,7 @@ use Rattle.model.specs.Coordinates.{Place, between}
 use Rattle.model.specs.Dots.{below}
 use Rattle.model.specs.declared.Clip.{Clip}
 use Rattle.model.specs.declared.Surface.{Surface}
-use Rattle.model.proofs.Decisions.{holds, both-true, both-of, and-false, and-left}
+use Rattle.model.proofs.Decisions.{holds, both-true, both-of, and-false, and-true, and-left}
 use Rattle.coordinates.specs.Offsets.{unbiased, Between}
 use Rattle.coordinates.specs.declared.Edges.{Edges}
 use Rattle.coordinates.proofs.EdgeLaws.{within-true, within-early, within-late, between-unbiased}
@@ -27,10 +27,6 @@ implied : (s t x y : Bool) → (x ≡ true → s ≡ true) → (y ≡ true → t
 implied s t true true f g = both-of (f refl) (both-of (g refl) refl)
 implied s t true false f g = and-false s _ (and-false t false refl)
 implied s t false y f g = and-false s _ (and-false t false refl)
-
-and-true : (a b : Bool) → b ≡ true → (a && b) ≡ a
-and-true true b e = e
-and-true false b e = refl
 
 module _ (u : Surface) (c : Clip) (wide : c .xmax < u .width) (high : c .ymax < u .height) where
   pub lies-clip : (p : Place) → lies u c p ≡ (between (c .xmin) (c .xmax) (p .x) && between (c .ymin) (c .ymax) (p .y))

@@ -9,7 +9,7 @@ use lib.Bits.{bitAnd, bitOr, bitXor, and-le-l, and-le-r, or-add-and}
 use lib.Pow.{low, high}
 use Rattle.model.specs.Words.{bit}
 use Rattle.model.proofs.BitLaws.{bit-shr}
-use Rattle.raster.proofs.BitLaws.{bit-zero, bit-mod, bit-and, bit-xor, differs}
+use Rattle.raster.proofs.BitLaws.{bit-zero, bit-mod, bit-and, bit-xor, differs, mux-bit}
 use Rattle.strips.specs.Strips.{Fourfold, Under}
 
 -- ## x below bit k, y from there on
@@ -57,16 +57,6 @@ fourfold w h i l =
     ap (λ (z : ℕ). bit z i) e ∙ again-bit w h 4 i (omega arith)
 
 -- ## x ^ ((x ^ y) & m) is y where m is 1, else x
-
-mux-bit : (m x y : Bool) → differs x (differs x y && m) ≡ cond m y x
-mux-bit true true true = refl
-mux-bit true true false = refl
-mux-bit true false true = refl
-mux-bit true false false = refl
-mux-bit false true true = refl
-mux-bit false true false = refl
-mux-bit false false true = refl
-mux-bit false false false = refl
 
 either : (m : Bool) (f b i : ℕ) → cond m (bit f i) (bit b i) ≡ bit (cond m f b) i
 either true f b i = refl

@@ -14,7 +14,7 @@ use lib.ListN.{length, getD, set, length-set}
 use lib.Seq.{getD-set-same, getD-set-other}
 use Rattle.model.specs.Words.{bit, bitAt}
 use Rattle.model.proofs.BitLaws.{bit-shr}
-use Rattle.raster.proofs.BitLaws.{bit-and, bit-xor, bit-mod, differs}
+use Rattle.raster.proofs.BitLaws.{bit-and, bit-xor, bit-mod, differs, mux-bit}
 use Rattle.raster.proofs.Table.{tabulate, each}
 use Rattle.strips.specs.Strips.{mixed, mixedBit}
 use Rattle.strips.specs.Covers.{Covers, Edged}
@@ -115,17 +115,7 @@ over-bit old keep flip cover i =
     ∙ ap (λ (z : Bool). z && bit cover i)
     (bit-xor i old (mixed old keep flip)
     ∙ ap (differs (bit old i)) (mixed-bit old keep flip i)))
-    ∙ chosen (bit cover i) (bit old i) (mixedBit keep flip i (bit old i))
-  where
-    chosen : (m x y : Bool) → differs x (differs x y && m) ≡ cond m y x
-    chosen true true true = refl
-    chosen true true false = refl
-    chosen true false true = refl
-    chosen true false false = refl
-    chosen false true true = refl
-    chosen false true false = refl
-    chosen false false true = refl
-    chosen false false false = refl
+    ∙ mux-bit (bit cover i) (bit old i) (mixedBit keep flip i (bit old i))
 
 -- the word at byte `at` written anew
 pub word-edged : (at : ℕ) (ink : Ink) (cover : ℕ) (s : List ℕ) (old new : ℕ) → at + 2 ≤ length s → getD s at 0 < 256

@@ -3,17 +3,16 @@ use mathlib.Core.Path.{_≡_, refl, sym, ap, ap₂, _∙_}
 use mathlib.Core.Logic.{inl, inr}
 use mathlib.Core.Bool.{Bool, true, false}
 use Prim.Native.Nat.{ℕ, zero, suc, _+_, _-_, _*_, _/_, _%_, _^_, _≤_, _<_}
-use native.Mathlib.Nat.{not-suc-le-zero, le-of-suc-le-suc}
+use native.Mathlib.Nat.{add-comm}
 use native.Mathlib.Omega.{arith}
 use native.Mathlib.Numerals.{add-one}
-use lib.Dec.{eqb}
 use Rattle.model.specs.Ranges.{listed}
 use Rattle.model.specs.Words.{bit, digit}
 use Rattle.model.specs.Dots.{Dot, visible, hits}
 use Rattle.model.specs.declared.Clip.{Clip}
 use Rattle.model.specs.declared.Surface.{Surface}
 use Rattle.model.proofs.BitLaws.{digit-le, bit-shr}
-use Rattle.raster.proofs.BitLaws.{bit-mod}
+use Rattle.raster.proofs.BitLaws.{bit-mod, digit-odd}
 use Rattle.strips.specs.Strips.{RotatedLeft}
 use Rattle.strips.specs.Strokes.{shown, patternOn}
 use Rattle.strips.proofs.BitParts.{bit-beyond}
@@ -81,11 +80,8 @@ shown-back on (suc n) =
     ∙ shown-cong (λ q. on (suc n - 1 - (1 + q))) (λ q. on (n - 1 - q)) n 0
     (λ k a b. let z : suc n - 1 - (1 + k) ≡ n - 1 - k = omega arith in ap on z)
     ∙ shown-back on n)
-    ∙ swap (digit (on (0 + n))) (shown on 0 n)
+    ∙ add-comm (digit (on (0 + n))) (shown on 0 n)
     ∙ sym (shown-last on n 0) ∙ ap (shown on 0) (add-one n)
-  where
-    swap : (a b : ℕ) → a + b ≡ b + a
-    swap a b = omega arith
 
 -- ## Dots
 
@@ -114,11 +110,6 @@ cut-hits {u} {clip} {f} {order} {x} {y} {i} {n} {N} c =
     ) in y)
 
 -- ## A pattern
-
-digit-odd : (x : ℕ) → x < 2 → digit (eqb x 1) ≡ x
-digit-odd zero h = refl
-digit-odd (suc zero) h = refl
-digit-odd (suc (suc x)) h = absurd (not-suc-le-zero (le-of-suc-le-suc (le-of-suc-le-suc h)))
 
 pub digit-bit : (x k : ℕ) → digit (bit x k) ≡ x / 2 ^ k % 2
 unfolding bit
@@ -159,10 +150,7 @@ module _ (pattern : ℕ) where
       let e : n ≡ n % 16 + n / 16 * 16 = omega arith in
       sym (ap (shown (patternOn pattern) i) e ∙ shown-add (patternOn pattern) (n % 16) (n / 16 * 16) i
       ∙ ap (λ (k : ℕ). shown (patternOn pattern) i (n % 16) + k) (times (n / 16) (i + n % 16))
-      ∙ comm (shown (patternOn pattern) i (n % 16)) (n / 16 * shown (patternOn pattern) 0 16))
-    where
-      comm : (a b : ℕ) → a + b ≡ b + a
-      comm a b = omega arith
+      ∙ add-comm (shown (patternOn pattern) i (n % 16)) (n / 16 * shown (patternOn pattern) 0 16))
 
 pub shown-le : (on : ℕ → Bool) (n i : ℕ) → shown on i n ≤ n
 unfolding shown

@@ -18,7 +18,7 @@ use Rattle.model.proofs.PlaceLaws.{column-in-byte, depth-bounds}
 use Rattle.strips.specs.Stretches.{across, In, Out, Stretched}
 use Rattle.strips.proofs.FieldBits.{Bytes, same-buffers}
 use Rattle.strips.specs.Strokes.{Strokes}
-use Rattle.strips.proofs.StrokeLaws.{inked, Beside, Once, places-apart, Stroked}
+use Rattle.strips.proofs.StrokeLaws.{inked, Beside, Once, bit-beside, Stroked}
 
 -- ## Stretches of a row
 
@@ -224,7 +224,7 @@ module _ (u : Surface) (x y n N : ℕ) {f : Strokes} {which : ℕ → ℕ} (al :
             rw (a, b) at (h .inside (which q) j (al .index q l) t k) ∙ (rw t at (e q j l k (bitAt old (placeBit u (x + q) y + j)))))
             (λ t. h .outside (placeBit u (x + q) y + j)
             (λ p c s. rw (column-of p c s, row-of p c s)
-            (places-apart u old fits (x + q) y (x + al .back p c s) y j (omega arith) (omega (arith, al .within p c s)) (inl (other q p c s t)) k))
+            (bit-beside u old fits (x + q) y (x + al .back p c s) y j (omega arith) (omega (arith, al .within p c s)) (inl (other q p c s t)) k))
             ∙ (rw t at (e q j l k (bitAt old (placeBit u (x + q) y + j)))))
           where
             other : (q p : ℕ) (c : p < N) (s : f .on p ≡ true) → f .on (which q) ≡ false → x + q ≡ x + al .back p c s → ⊥

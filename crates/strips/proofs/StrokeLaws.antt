@@ -3,7 +3,7 @@ use mathlib.Core.Path.{_≡_, refl, ap, _∙_}
 use mathlib.Core.Logic.{_≢_, _⊎_, inl, inr}
 use mathlib.Core.Bool.{Bool, true, false, cond}
 use mathlib.Core.List.{List}
-use Prim.Native.Nat.{ℕ, zero, suc, _+_, _-_, _≤_, _<_}
+use Prim.Native.Nat.{ℕ, zero, suc, _+_, _≤_, _<_}
 use native.Mathlib.Omega.{arith}
 use native.Mathlib.Decide.{ℕ-discrete}
 use lib.ListN.{length}
@@ -21,8 +21,8 @@ use Rattle.model.specs.declared.Source.{Source}
 use Rattle.model.proofs.CallLaws.{change-length, changes-length}
 use Rattle.model.proofs.Decisions.{split}
 use Rattle.model.proofs.PixelLaws.{fits-framed}
-use Rattle.model.proofs.PlaceLaws.{apart}
 use Rattle.raster.specs.Pixels.{blending}
+use Rattle.raster.proofs.ChangeLaws.{places-apart}
 use Rattle.strips.specs.Strokes.{Strokes, strokes}
 use Rattle.strips.proofs.FieldBits.{blending-bit, blending-keeps}
 
@@ -52,17 +52,11 @@ unfolding changes
 changes-keep u true c cs s = refl
 changes-keep u false c cs s = refl
 
-pub places-apart : (u : Surface) (s : List ℕ) → Fits u s → (x y x′ y′ j : ℕ) → x < u .width → x′ < u .width
+-- no bit of a pixel is a bit of another
+pub bit-beside : (u : Surface) (s : List ℕ) → Fits u s → (x y x′ y′ j : ℕ) → x < u .width → x′ < u .width
     → (x ≢ x′) ⊎ (y ≢ y′) → j < u .bits → Beside u x′ y′ (placeBit u x y + j)
-unfolding placeBit
-places-apart u s f x y x′ y′ j h h′ n l =
-    go (apart (u .base) (u .words) (u .bits) (f .depth) (u .left + u .width) (f .right) (u .left + x) (u .top + y) (u .left + x′) (u .top + y′)
-    (omega arith) (omega arith) (shifted n))
+bit-beside u s f x y x′ y′ j h h′ n l = go (places-apart u s f x y x′ y′ h h′ n)
   where
-    shifted : (x ≢ x′) ⊎ (y ≢ y′) → (u .left + x ≢ u .left + x′) ⊎ (u .top + y ≢ u .top + y′)
-    shifted (inl n) = inl (omega arith)
-    shifted (inr n) = inr (omega arith)
-
     go : (placeBit u x y + u .bits ≤ placeBit u x′ y′) ⊎ (placeBit u x′ y′ + u .bits ≤ placeBit u x y) → Beside u x′ y′ (placeBit u x y + j)
     go (inl m) = inl (omega arith)
     go (inr m) = inr (omega arith)
@@ -108,7 +102,7 @@ module _ (u : Surface) (pen : Pen) (f : Strokes) where
       ∙ go (ℕ-discrete p i) (λ d. inside n (suc i) p j (first i s) (first-fits i s t) (once-next i n o) (omega arith) (omega arith) e l)
     where
       far : (q : ℕ) → p ≢ q → i ≤ q → q < i + suc n → f .on q ≡ true → Beside u (f .x q) (f .y q) (placeBit u (f .x p) (f .y p) + j)
-      far q d c r g = places-apart u s t (f .x p) (f .y p) (f .x q) (f .y q) j (o .column p a b e) (o .column q c r g) (o .once p q a b c r e g d) l
+      far q d c r g = bit-beside u s t (f .x p) (f .y p) (f .x q) (f .y q) j (o .column p a b e) (o .column q c r g) (o .once p q a b c r e g d) l
 
       here : List ℕ → Bool
       here t = bitAt t (placeBit u (f .x p) (f .y p) + j)
