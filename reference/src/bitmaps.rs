@@ -1,4 +1,4 @@
-//! Bitmaps, the rule for them, and the clip.
+//! Bitmaps, the rule for them, the clip, and the scissor.
 
 use crate::table::Row;
 use crate::words::bytes_in_rows;
@@ -154,4 +154,44 @@ impl Clip {
             && inside(self.ymin, last_y)
             && inside(self.ymax, last_y)
     }
+}
+
+/// The scissor: "the rectangle in screen coordinates where drawing can land",
+/// "kept as left, top, width and height, four zeros when empty" (02, A.6).
+#[derive(Clone, Copy, Debug, PartialEq, Eq, Default)]
+pub struct Scissor {
+    pub left: u32,
+    pub top: u32,
+    pub width: u32,
+    pub height: u32,
+}
+
+impl Scissor {
+    /// "What would be computed afresh" of the pane's row, the active bitmap and
+    /// the clip: "clip within pane, empty if the active bitmap is in the store or
+    /// absent".
+    pub fn of(row: &Row, bitmap: &Bitmap, clip: &Clip) -> Scissor {
+        let Bitmap::Pane { .. } = bitmap else {
+            return Scissor::default();
+        };
+        let (first_column, width) = clipped(clip.xmin, clip.xmax, row.width);
+        let (first_row, height) = clipped(clip.ymin, clip.ymax, row.height);
+        if width == 0 || height == 0 {
+            return Scissor::default();
+        }
+        Scissor {
+            left: row.left + first_column,
+            top: row.top + first_row,
+            width,
+            height,
+        }
+    }
+}
+
+/// Of so many columns or rows, those from a minimum to a maximum: which is the
+/// first, and how many there are.
+fn clipped(minimum: i16, maximum: i16, size: u32) -> (u32, u32) {
+    let first = i64::from(minimum).max(0);
+    let end = (i64::from(maximum) + 1).min(i64::from(size));
+    (first as u32, (end - first).max(0) as u32)
 }

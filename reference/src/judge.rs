@@ -55,7 +55,7 @@ pub fn judge(frame: &Frame, store: &[u8], address: u32) -> Verdict {
         if let Err(fault) = scene.check(command) {
             return found(fault.0);
         }
-        record.pointer = settle(&mut record, command, next);
+        record.pointer = settle(&frame.row, &mut record, command, next);
         commands += 1;
     }
 }

@@ -157,6 +157,10 @@ impl Pane<'_> {
     /// becomes 1 if some pixel would have been drawn, whatever mask and
     /// operation."
     ///
+    /// The limits are those of bitmap and clip, on the pane too. The proved
+    /// console takes them there from the scissor alone (02, A.6): where the two
+    /// reply the same, "replies and pixels are unaffected" by it.
+    ///
     /// Answers how many pixels were drawn, one or none, "pick mode counting
     /// none" (02, A.5). One whose bits all stay, by mask or operation, is drawn.
     pub fn draw(&mut self, x: i64, y: i64, source: Source) -> u64 {

@@ -1,6 +1,6 @@
 //! What the console keeps of a pane: a fresh record, and when one is sound.
 
-use crate::bitmaps::{Bitmap, Clip};
+use crate::bitmaps::{Bitmap, Clip, Scissor};
 use crate::table::Row;
 
 /// "Status: 0 parked, 1 running, 2 ended, 3 faulted."
@@ -30,6 +30,9 @@ pub struct PaneRecord {
     pub y: i16,
     pub bitmap: Bitmap,
     pub clip: Clip,
+    /// Where drawing can land on the screen. It is kept and compared, but not
+    /// drawn by: see `Pane::draw`.
+    pub scissor: Scissor,
     pub foreground: u16,
     pub background: u16,
     pub operation: u32,
@@ -52,7 +55,8 @@ impl PaneRecord {
     /// bitmap, clip all 0, both colours 0, operation 'replace' (new bit =
     /// source bit), colour mask FFFF hex, pattern FFFF hex opaque, spacing 0,
     /// path and rotation 0, no font, pick mode off, pick and trap flags 0, no
-    /// return addresses." Replace is code 5: "source".
+    /// return addresses." Replace is code 5: "source". The scissor is empty,
+    /// there being no bitmap.
     pub fn fresh() -> PaneRecord {
         PaneRecord {
             status: PARKED,
@@ -62,6 +66,7 @@ impl PaneRecord {
             y: 0,
             bitmap: Bitmap::None,
             clip: Clip::default(),
+            scissor: Scissor::default(),
             foreground: 0,
             background: 0,
             operation: 5,
@@ -102,12 +107,21 @@ impl PaneRecord {
         self.y = (y + dy) as i16;
     }
 
+    /// What is drawn on, and the clip; with them goes the scissor: "every call
+    /// and command keeps it equal to what would be computed afresh" (02, A.6).
+    pub fn set_limits(&mut self, row: &Row, bitmap: Bitmap, clip: Clip) {
+        self.bitmap = bitmap;
+        self.clip = clip;
+        self.scissor = Scissor::of(row, &bitmap, &clip);
+    }
+
     /// Refusal 12: "the pane record has a status above 3; a fault outside 20
     /// to 29 at status 3 or not 0 elsewhere; a bitmap breaking DEF_BITMAP's
     /// rule; a clip value outside the bitmap, or not 0 without one; a font
     /// base odd or above 22 bits; an operation above 15; a path or rotation
     /// above 3; over eight return addresses." And "refusal 12 admits fault 30
-    /// at status 3".
+    /// at status 3" (02, A.1), and "a pane record in which" the scissor "isn't
+    /// equal" to what would be computed afresh "falls under refusal 12" (02, A.6).
     pub fn is_sound(&self, row: &Row, depth: u32) -> bool {
         let fault_sound = if self.status == FAULTED {
             (20..=30).contains(&self.fault)
@@ -127,6 +141,7 @@ impl PaneRecord {
             && fault_sound
             && self.bitmap.keeps_rule(row, depth)
             && clip_sound
+            && self.scissor == Scissor::of(row, &self.bitmap, &self.clip)
             && font_sound
             && self.operation <= 15
             && self.path <= 3

@@ -7,6 +7,7 @@ use crate::faults::Scene;
 use crate::lines::{line_pixels, outline_pixels, polyline_pixels, Segment};
 use crate::pixels::Pane;
 use crate::record::{Font, PaneRecord, ENDED, FAULTED};
+use crate::table::Row;
 use crate::words::word_at;
 use crate::Fault;
 
@@ -44,7 +45,7 @@ pub fn step(pane: &mut Pane) -> Outcome {
         return faulted(pane, fault);
     }
     let pixels = draw(pane, command);
-    pane.record.pointer = settle(pane.record, command, next);
+    pane.record.pointer = settle(&pane.frame.row, pane.record, command, next);
     Outcome::Done { command, pixels }
 }
 
@@ -54,10 +55,11 @@ fn faulted(pane: &mut Pane, fault: Fault) -> Outcome {
     Outcome::Faulted(fault)
 }
 
-/// What a command that draws nothing makes of the record; a drawing command
-/// does that where it draws. The command was checked. Answers where the pointer
-/// goes; next is the address of the word after the command.
-pub fn settle(record: &mut PaneRecord, command: Command, next: u32) -> u32 {
+/// What a command that draws nothing makes of the record of the pane with this
+/// row; a drawing command does that where it draws. The command was checked.
+/// Answers where the pointer goes; next is the address of the word after the
+/// command.
+pub fn settle(row: &Row, record: &mut PaneRecord, command: Command, next: u32) -> u32 {
     match command {
         // "LINK sets the pointer."
         Command::Link { target } => return target,
@@ -87,8 +89,8 @@ pub fn settle(record: &mut PaneRecord, command: Command, next: u32) -> u32 {
             ymax,
             bits,
         } => {
-            record.bitmap = Bitmap::named(address, xmax, ymax, bits);
-            record.clip = Clip::whole(&record.bitmap);
+            let bitmap = Bitmap::named(address, xmax, ymax, bits);
+            record.set_limits(row, bitmap, Clip::whole(&bitmap));
         }
         Command::DefClipRect {
             xmin,
@@ -96,12 +98,13 @@ pub fn settle(record: &mut PaneRecord, command: Command, next: u32) -> u32 {
             xmax,
             ymax,
         } => {
-            record.clip = Clip {
+            let clip = Clip {
                 xmin,
                 ymin,
                 xmax,
                 ymax,
-            }
+            };
+            record.set_limits(row, record.bitmap, clip);
         }
         Command::DefColors {
             foreground,

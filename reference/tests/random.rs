@@ -180,6 +180,27 @@ fn random_scripts_draw_polylines() {
     }
 }
 
+/// They draw on the pane by clips of every kind, so that a limit that is wrong,
+/// or that was not set anew, shows: each of these in one of eight scripts at
+/// least.
+#[test]
+fn random_scripts_draw_by_clips() {
+    for language in LANGUAGES {
+        let stats = Stats::of(language, 160);
+        for what in [
+            "cut by a clip",
+            "kept away by an empty clip",
+            "cut by a clip from before the start",
+            "after a bitmap in the store",
+            "after a DEF_BITMAP that faulted",
+            "after a DEF_CLIP_RECT that faulted",
+        ] {
+            let scripts = stats.clips.get(what);
+            assert!(scripts.is_some_and(|scripts| *scripts >= 20), "{what}");
+        }
+    }
+}
+
 /// Their runs would report other pixels by each of these wrong rules, in one of
 /// four scripts at least.
 #[test]

@@ -3,7 +3,7 @@
 
 mod bench;
 use bench::*;
-use reference::bitmaps::{Bitmap, Clip};
+use reference::bitmaps::{Bitmap, Clip, Scissor};
 use reference::calls::RunReply;
 use reference::judge::Verdict;
 use reference::record::{Font, PaneRecord};
@@ -224,6 +224,12 @@ fn refusal_1_no_such_pane() {
 fn unsound(change: impl Fn(&mut PaneRecord)) -> bool {
     let mut bench = two();
     change(bench.record());
+    refused_with_12(bench)
+}
+
+/// Whether pane 0's record is refused with 12: by every call, and nothing
+/// changes.
+fn refused_with_12(mut bench: Bench) -> bool {
     let before = bench.clone();
     let reply = bench.look(0);
     if reply.is_ok() {
@@ -254,9 +260,24 @@ fn small() -> Bitmap {
     }
 }
 
-/// Whether a bitmap with a clip of one pixel is refused.
+/// Whether a bitmap with a clip of one pixel is refused. The scissor goes with
+/// the clip.
 fn bitmap_unsound(bitmap: Bitmap) -> bool {
-    unsound(|record| record.bitmap = bitmap)
+    unsound(|record| {
+        record.bitmap = bitmap;
+        if let Bitmap::Pane { .. } = bitmap {
+            record.scissor = scissor(0, 0, 1, 1);
+        }
+    })
+}
+
+fn scissor(left: u32, top: u32, width: u32, height: u32) -> Scissor {
+    Scissor {
+        left,
+        top,
+        width,
+        height,
+    }
 }
 
 #[test]
@@ -391,6 +412,130 @@ fn refusal_12_clip() {
         xmax: 3,
         ymax: 2
     }));
+}
+
+/// A pane of 6 by 4 pixels at (3,2) of the screen, beside another. A list has
+/// left its bitmap and clip.
+fn left_by(commands: &[&[u16]]) -> Bench {
+    let rows = [row(3, 2, 6, 4, 0, 128), row(9, 2, 5, 4, 128, 32)];
+    let mut bench = Bench::open(16, 8, 2, &rows);
+    bench.done(commands);
+    bench
+}
+
+const ON_PANE: [u16; 6] = [0x1A00, 0x0000, 0x0020, 5, 3, 2];
+const IN_STORE: [u16; 6] = [0x1A00, 100, 0, 5, 3, 2];
+/// Columns 1 to 4 and rows 1 to 2: screen columns 4 to 7, rows 3 to 4.
+const CLIP: [u16; 5] = [0x4600, 1, 1, 4, 2];
+
+/// Lists after which nothing can be drawn on the pane.
+const WITHOUT_SCISSOR: [&[&[u16]]; 5] = [
+    &[],
+    &[&IN_STORE],
+    &[&ON_PANE, &CLIP, &IN_STORE, &CLIP],
+    &[&ON_PANE, &[0x4600, 4, 1, 3, 2]],
+    &[&ON_PANE, &[0x4600, 1, 2, 4, 1]],
+];
+
+#[test]
+fn refusal_12_scissor() {
+    let kept = |commands, kept| {
+        let mut bench = left_by(commands);
+        bench.record().scissor = kept;
+        !refused_with_12(bench)
+    };
+    let clipped: [&[u16]; 2] = [&ON_PANE, &CLIP];
+    assert!(kept(&clipped, scissor(4, 3, 4, 2)));
+    for stale in [
+        // A column or a row too many, or one too few.
+        scissor(4, 3, 5, 2),
+        scissor(4, 3, 4, 3),
+        scissor(4, 3, 3, 2),
+        scissor(4, 3, 4, 1),
+        // Off by one.
+        scissor(3, 3, 4, 2),
+        scissor(5, 3, 4, 2),
+        scissor(4, 2, 4, 2),
+        scissor(4, 4, 4, 2),
+        // The whole pane; in columns and rows of the pane; corners.
+        scissor(3, 2, 6, 4),
+        scissor(1, 1, 4, 2),
+        scissor(4, 3, 7, 4),
+        // Empty, in all four or in one.
+        scissor(0, 0, 0, 0),
+        scissor(4, 3, 0, 2),
+        scissor(4, 3, 4, 0),
+        scissor(4, 3, 4, u32::MAX),
+        scissor(u32::MAX, 3, 4, 2),
+    ] {
+        assert!(!kept(&clipped, stale), "{stale:?}");
+    }
+    for commands in WITHOUT_SCISSOR {
+        assert!(kept(commands, scissor(0, 0, 0, 0)));
+        // What it was before; one pixel; what is empty but not four zeros.
+        for stale in [
+            scissor(4, 3, 4, 2),
+            scissor(3, 2, 6, 4),
+            scissor(0, 0, 1, 1),
+            scissor(3, 2, 0, 0),
+            scissor(0, 0, 6, 0),
+            scissor(0, 0, 0, 4),
+        ] {
+            assert!(!kept(commands, stale), "{stale:?}");
+        }
+    }
+}
+
+/// Bitmap and clip are good, but others than the scissor was made from.
+#[test]
+fn refusal_12_bitmap_or_clip_without_its_scissor() {
+    let changed = |change: fn(&mut PaneRecord)| {
+        let mut bench = left_by(&[&ON_PANE, &CLIP]);
+        change(bench.record());
+        refused_with_12(bench)
+    };
+    assert!(changed(|record| record.clip.xmin = 0));
+    assert!(changed(|record| record.clip.ymin = 2));
+    assert!(changed(|record| record.clip.xmax = 5));
+    assert!(changed(|record| record.clip.ymax = 1));
+    assert!(changed(|record| record.clip.xmax = 0));
+    assert!(changed(|record| record.bitmap = Bitmap::Store {
+        address: 100,
+        xmax: 5,
+        ymax: 3,
+        bits: 2
+    }));
+}
+
+/// A row that was moved without set-up, to the left or up: the scissor is the
+/// old place's. Where it is empty, it would be empty at the new place too.
+#[test]
+fn refusal_12_row_moved() {
+    let moves: [fn(&mut Bench); 2] = [
+        |bench| bench.console.rows[0].left = 2,
+        |bench| bench.console.rows[0].top = 1,
+    ];
+    for move_row in moves {
+        for commands in [&[&ON_PANE[..]][..], &[&ON_PANE, &CLIP]] {
+            let mut bench = left_by(commands);
+            let at_first = bench.clone();
+            move_row(&mut bench);
+            assert!(refused_with_12(bench.clone()));
+            // Moved back, the record is good again; and so is one set up anew.
+            let moved = bench.console.rows[0];
+            bench.console.rows = at_first.console.rows;
+            assert_eq!(bench, at_first);
+            assert!(bench.look(0).is_ok());
+            bench.console.rows[0] = moved;
+            assert_eq!(bench.set_up(), Ok(()));
+            assert!(bench.look(0).is_ok());
+        }
+        for commands in WITHOUT_SCISSOR {
+            let mut bench = left_by(commands);
+            move_row(&mut bench);
+            assert!(!refused_with_12(bench));
+        }
+    }
 }
 
 #[test]

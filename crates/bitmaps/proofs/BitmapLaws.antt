@@ -1,33 +1,28 @@
 -- What DEF_BITMAP's rule and the clip's test say where they don't refuse: a bitmap's pixels lie in its buffer, and the clip in the bitmap.
 use mathlib.Core.Path.{_≡_, refl, sym}
-use mathlib.Core.Bool.{false, not, _&&_, _||_}
+use mathlib.Core.Bool.{false, not, _||_}
 use mathlib.Core.List.{List}
 use Prim.Native.Nat.{ℕ, _+_, _%_, _≤_, _<_}
 use native.Mathlib.Omega.{arith}
 use native.Mathlib.Nat.{mul-le-mul-right}
 use lib.Dec.{ltb, eqb}
 use lib.ListN.{length}
-use borrow.Author.Tests.{ltb-false, le-ltb, eqb-true, not-false}
+use borrow.Author.Tests.{ltb-false, le-ltb, not-false}
 use Rattle.model.specs.declared.Geometry.{Geometry}
 use Rattle.model.specs.declared.Row.{Row}
 use Rattle.model.specs.declared.Bitmap.{Bitmap}
 use Rattle.model.specs.declared.Bitmap.the-variants as bitmap
 use Rattle.model.specs.declared.Clip.{Clip}
 use Rattle.model.specs.declared.Surface.{Surface}
-use Rattle.model.specs.Bitmaps.{isDepth, rowWords, bitmapBytes, bitmapOf, paneAddress, paneSurface, storeSurface, surfaceOf, paneBitmapBad, storeBitmapBad}
+use Rattle.model.specs.Bitmaps.{isDepth, rowWords, bitmapBytes, bitmapOf, paneAddress, paneSurface, storeSurface, surfaceOf, storeBitmapBad}
 use Rattle.model.specs.Bitmaps.{ruleBroken, Fits}
 use Rattle.model.specs.Faults.{noBitmap, clipBeyond, clipOutside}
-use Rattle.model.proofs.Decisions.{holds, both-true, either-false, cond-ind}
+use Rattle.model.proofs.Decisions.{holds, either-false, cond-ind}
+use Rattle.model.proofs.SetupLaws.{ruleBroken-pane, ClipIn, clipBeyond-says}
 use Rattle.bitmaps.specs.Places.{Placed}
 use Rattle.bitmaps.proofs.DepthLaws.{Known, isDepth-known, even-of}
 
 -- ## The rule
-
--- the pane's own width, height and depth
-pub record PaneBitmap (g : Geometry) (r : Row) (xmax ymax b : ℕ) : Type 0 where
-  pub width : xmax + 1 ≡ r .width
-  pub height : ymax + 1 ≡ r .height
-  pub depth : b ≡ g .depth
 
 -- a bitmap in a store of so many bytes
 pub record StoreBitmap (len a xmax ymax b : ℕ) : Type 0 where
@@ -36,13 +31,6 @@ pub record StoreBitmap (len a xmax ymax b : ℕ) : Type 0 where
   pub bottom : ymax ≤ 0x7FFF
   pub known : Known b
   pub room : a + bitmapBytes xmax ymax b ≤ len
-
-pub paneBitmapBad-says : (g : Geometry) (r : Row) (xmax ymax b : ℕ) → paneBitmapBad g r xmax ymax b ≡ false → PaneBitmap g r xmax ymax b
-unfolding paneBitmapBad
-paneBitmapBad-says g r xmax ymax b h =
-    let p = both-true (eqb (xmax + 1) (r .width)) (eqb (ymax + 1) (r .height) && eqb b (g .depth)) (not-false _ h) in
-    let q = both-true (eqb (ymax + 1) (r .height)) (eqb b (g .depth)) (p .1) in
-    record { width = eqb-true (xmax + 1) (r .width) (p .0); height = eqb-true (ymax + 1) (r .height) (q .0); depth = eqb-true b (g .depth) (q .1) }
 
 pub storeBitmapBad-says : (len a xmax ymax b : ℕ) → storeBitmapBad len a xmax ymax b ≡ false → StoreBitmap len a xmax ymax b
 unfolding storeBitmapBad
@@ -61,10 +49,6 @@ storeBitmapBad-says len a xmax ymax b h =
     }
 
 module _ (g : Geometry) (r : Row) (xmax ymax b : ℕ) where
-  pub ruleBroken-pane : ruleBroken g r (bitmap.Pane xmax ymax b) ≡ false → PaneBitmap g r xmax ymax b
-  unfolding ruleBroken
-  ruleBroken-pane = paneBitmapBad-says g r xmax ymax b
-
   pub ruleBroken-store : (a : ℕ) → ruleBroken g r (bitmap.Store a xmax ymax b) ≡ false → StoreBitmap (r .len) a xmax ymax b
   unfolding ruleBroken
   ruleBroken-store a = storeBitmapBad-says (r .len) a xmax ymax b
@@ -81,12 +65,6 @@ pane-fits g r screen store p =
       long = let h = mul-le-mul-right (rowWords (g .width) (g .depth)) (p .bottom) in omega (arith, p .long);
     }
 
-pub bitmap-fits-screen : (g : Geometry) (r : Row) (screen : List ℕ) (store xmax ymax b : ℕ)
-    → Placed g r (length screen) store → Fits (surfaceOf g r (bitmap.Pane xmax ymax b)) screen
-unfolding surfaceOf
-bitmap-fits-screen g r screen store xmax ymax b = pane-fits g r screen store
-
--- a store bitmap in the store
 pub bitmap-fits-store : (g : Geometry) (r : Row) (store : List ℕ) (a xmax ymax b : ℕ)
     → ruleBroken g r (bitmap.Store a xmax ymax b) ≡ false → length store ≡ r .len → Fits (surfaceOf g r (bitmap.Store a xmax ymax b)) store
 unfolding surfaceOf storeSurface
@@ -104,24 +82,22 @@ pub record ClipWithin (s : Surface) (c : Clip) : Type 0 where
   pub right : c .xmax < s .width
   pub bottom : c .ymax < s .height
 
-clipBeyond-says : (xmax ymax : ℕ) (c : Clip) (s : Surface) → xmax + 1 ≡ s .width → ymax + 1 ≡ s .height → clipBeyond xmax ymax c ≡ false → ClipWithin s c
-clipBeyond-says xmax ymax c s w t h =
-    let p = either-false (ltb xmax (c .xmin)) (ltb ymax (c .ymin) || (ltb xmax (c .xmax) || ltb ymax (c .ymax))) h in
-    let q = either-false (ltb ymax (c .ymin)) (ltb xmax (c .xmax) || ltb ymax (c .ymax)) (p .1) in
-    let u = either-false (ltb xmax (c .xmax)) (ltb ymax (c .ymax)) (q .1) in
-    let i = ltb-false xmax (c .xmin) (p .0) in
-    let j = ltb-false ymax (c .ymin) (q .0) in
-    let k = ltb-false xmax (c .xmax) (u .0) in
-    let l = ltb-false ymax (c .ymax) (u .1) in
-    record { left = omega arith; top = omega arith; right = omega arith; bottom = omega arith }
+within : (xmax ymax : ℕ) (c : Clip) (s : Surface) → xmax + 1 ≡ s .width → ymax + 1 ≡ s .height → ClipIn xmax ymax c → ClipWithin s c
+within xmax ymax c s w t h =
+    record {
+      left = omega (arith, h .left);
+      top = omega (arith, h .top);
+      right = omega (arith, h .right);
+      bottom = omega (arith, h .bottom);
+    }
 
 pub clip-within : (g : Geometry) (r : Row) (b : Bitmap) (c : Clip) → noBitmap b ≡ false → ruleBroken g r b ≡ false → clipOutside b c ≡ false
     → ClipWithin (surfaceOf g r b) c
 unfolding clipOutside surfaceOf paneSurface storeSurface
 clip-within g r bitmap.Absent c n h o = absurd (holds (sym n))
 clip-within g r (bitmap.Pane xmax ymax b) c n h o =
-    let p = ruleBroken-pane g r xmax ymax b h in clipBeyond-says xmax ymax c (paneSurface g r) (p .width) (p .height) o
-clip-within g r (bitmap.Store a xmax ymax b) c n h o = clipBeyond-says xmax ymax c (storeSurface a xmax ymax b) refl refl o
+    let p = ruleBroken-pane g r xmax ymax b h in within xmax ymax c (paneSurface g r) (p .width) (p .height) (clipBeyond-says xmax ymax c o)
+clip-within g r (bitmap.Store a xmax ymax b) c n h o = within xmax ymax c (storeSurface a xmax ymax b) refl refl (clipBeyond-says xmax ymax c o)
 
 -- the clip that DEF_BITMAP sets
 pub whole-clip : (a xmax ymax b : ℕ) → clipOutside (bitmapOf a xmax ymax b) (record { xmin = 0; ymin = 0; xmax = xmax; ymax = ymax }) ≡ false

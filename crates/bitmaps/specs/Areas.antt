@@ -1,25 +1,49 @@
 -- Where a bitmap's pixels lie, and what is asked of a surface.
 use mathlib.Core.Path.{_≡_}
-use mathlib.Core.Bool.{Bool, true, false}
-use Prim.Native.Nat.{ℕ, _+_, _*_, _≤_}
+use mathlib.Core.Bool.{true, false}
+use Prim.Native.Nat.{ℕ, _+_, _-_, _*_, _≤_}
 use Rattle.model.specs.declared.Geometry.{Geometry}
 use Rattle.model.specs.declared.Row.{Row}
 use Rattle.model.specs.declared.Surface.{Surface}
 use Rattle.model.specs.declared.Bitmap.{Bitmap}
 use Rattle.model.specs.declared.Bitmap.the-variants as bitmap
-use Rattle.model.specs.Bitmaps.{bitmapOf, surfaceOf, ruleBroken, Depth}
+use Rattle.model.specs.Bitmaps.{isPane, rowWords, bitmapOf, surfaceOf, ruleBroken, Depth}
 use Rattle.bitmaps.specs.declared.areas.Area.{Area}
 use Rattle.bitmaps.specs.Places.{Placed}
-
--- a bitmap is the pane
-abbrev pub isPane : Bitmap → Bool
-isPane bitmap.Absent = false
-isPane (bitmap.Pane xmax ymax b) = true
-isPane (bitmap.Store a xmax ymax b) = false
 
 -- the area of a bitmap: the pane's pixels lie in the screen, a store bitmap's in the store
 abbrev pub areaOf : Geometry → Row → Bitmap → Area
 areaOf g r b = record { onscreen = isPane b; surface = surfaceOf g r b }
+
+-- ## Where drawing lands (02, A.6)
+
+-- the screen from the pane's corner on: what of it is drawn on, the scissor says alone
+unfoldable pub screenFrom : Geometry → Row → Surface
+screenFrom g r =
+    record {
+      base = 0;
+      words = rowWords (g .width) (g .depth);
+      bits = g .depth;
+      left = r .left;
+      top = r .top;
+      width = g .width - r .left;
+      height = g .height - r .top;
+    }
+
+-- the area that commands draw in: the pane's pixels from its corner on, a store bitmap's in the store
+abbrev pub landingArea : Geometry → Row → Bitmap → Area
+landingArea g r bitmap.Absent = areaOf g r bitmap.Absent
+landingArea g r (bitmap.Pane xmax ymax b) = record { onscreen = true; surface = screenFrom g r }
+landingArea g r (bitmap.Store a xmax ymax b) = areaOf g r (bitmap.Store a xmax ymax b)
+
+-- a screen of sizes that set-up lets pass, with the pane's corner on it
+pub record OnScreen (g : Geometry) (r : Row) : Type 0 where
+  pub width : g .width ≤ 4096
+  pub depth : g .depth ≤ 8
+  pub left : r .left ≤ g .width
+  pub top : r .top ≤ g .height
+
+-- ## Sources, and what is asked
 
 -- the bitmap that BIT_BLT_M names, by the active bitmap
 abbrev pub sourceOf : Geometry → Row → Bitmap → ℕ → ℕ → ℕ → Bitmap

@@ -20,3 +20,8 @@ pub record Placed (g : Geometry) (r : Row) (screen store : ℕ) : Type 0 where
   pub part : store ≡ r .len
   pub even : r .len % 2 ≡ 0
   pub most : r .len ≤ mostStore
+
+-- the pane's corner lies on a screen
+pub record Cornered (r : Row) : Type 0 where
+  pub left : r .left ≤ 4096
+  pub top : r .top ≤ 4096

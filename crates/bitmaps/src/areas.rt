@@ -7,9 +7,9 @@ use model::Surface;
 ghost use mathlib.Core.Path.{_≡_};
 ghost use mathlib.Core.Bool.{false};
 ghost use Prim.Native.Nat.{_≤_};
-ghost use Rattle.model.specs.Bitmaps.{surfaceOf};
+ghost use Rattle.model.specs.Bitmaps.{isPane, surfaceOf};
 ghost use Rattle.model.specs.Faults.{noBitmap};
-ghost use Rattle.bitmaps.specs.Areas.{Active, isPane, areaOf, sourceOf};
+ghost use Rattle.bitmaps.specs.Areas.{Active, OnScreen, areaOf, landingArea, screenFrom, sourceOf};
 
 // A surface, which lies in the screen if `onscreen` and else in the store.
 pub struct Area {
@@ -93,6 +93,51 @@ pub fn area_of(f: Frame, b: Bitmap) -> Area
     Area {
         onscreen: is_pane(b),
         surface,
+    }
+}
+
+// The screen from the pane's corner on.
+fn screen_from(f: Frame) -> Surface
+    requires { ⌜ OnScreen (f .geometry) (f .row) ⌝ }
+    ensures { λ s. ⌜ s ≡ screenFrom (f .geometry) (f .row) ⌝ }
+{
+    let g = f.geometry;
+    let r = f.row;
+    Surface {
+        base: 0,
+        words: row_words(g.width as usize, g.depth as usize),
+        bits: g.depth as usize,
+        left: r.left as usize,
+        top: r.top as usize,
+        width: (g.width - r.left) as usize,
+        height: (g.height - r.top) as usize,
+    }
+}
+
+// The area that commands draw in, by the active bitmap. On the pane the row says where its corner is, and no more.
+pub fn landing_area(f: Frame, b: Bitmap) -> Area
+    requires { ⌜ OnScreen (f .geometry) (f .row) ⌝ }
+    ensures { λ a. ⌜ a ≡ landingArea (f .geometry) (f .row) b ⌝ }
+{
+    match b {
+        Bitmap::Absent => area_of(f, b),
+        Bitmap::Pane {
+            xmax: _,
+            ymax: _,
+            bits: _,
+        } => {
+            let surface = screen_from(f);
+            Area {
+                onscreen: true,
+                surface,
+            }
+        }
+        Bitmap::Store {
+            address: _,
+            xmax: _,
+            ymax: _,
+            bits: _,
+        } => area_of(f, b),
     }
 }
 

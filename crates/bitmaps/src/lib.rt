@@ -1,16 +1,19 @@
-// Bitmaps: where their pixels lie, DEF_BITMAP's rule, clips, and bytes of the store that touch a bitmap.
+// Bitmaps: where their pixels lie, DEF_BITMAP's rule, clips, the scissor, and bytes of the store that touch a bitmap.
 // Refusal 12, the commands' faults and the drawing commands look at these.
 pub mod areas; // areas.rt: where a bitmap's pixels lie
+pub mod scissors; // scissors.rt: where drawing can land on the screen
 
 pub use areas::Area;
 pub use areas::area_of;
 pub use areas::is_pane;
+pub use areas::landing_area;
 pub use areas::source_of;
 pub use areas::surface_of;
 use model::Bitmap;
 use model::Clip;
 use model::Frame;
 use model::Row;
+pub use scissors::scissor_of;
 ghost use mathlib.Core.Path.{_≡_};
 ghost use Prim.Native.Nat.{_+_, _^_, _≤_, _<_};
 ghost use lib.Dec.{ltb};

@@ -13,6 +13,7 @@ use model::Reply;
 use model::Returns;
 use model::Row;
 use model::STATUS_PARKED;
+use model::Scissor;
 use model::Text;
 use refusals::call::call_refusal;
 use words::either;
@@ -112,6 +113,12 @@ pub fn fresh() -> Pane
             ymin: 0,
             xmax: 0,
             ymax: 0,
+        },
+        scissor: Scissor {
+            left: 0,
+            top: 0,
+            width: 0,
+            height: 0,
         },
         pen: Pen {
             fore: 0,

@@ -1,21 +1,26 @@
--- What a target promises: the bitmap lies in its buffer, its clip in the bitmap, and the table is the
--- operation's.
+-- What a target promises: its area lies in its buffer, its clip in the area, and the table is the operation's.
+-- And the target of a pane's drawing commands.
 use mathlib.Core.Path.{_≡_}
-use mathlib.Core.Bool.{true, cond}
+use mathlib.Core.Bool.{true, false, cond}
+use lib.Dec.{eqb}
 use lib.IntN.{ℤ}
-use Prim.Native.Nat.{ℕ, _+_, _*_, _≤_, _<_}
+use Prim.Native.Nat.{ℕ, _+_, _-_, _*_, _≤_, _<_}
 use Rattle.model.specs.Coordinates.{Place, negative, offset, place}
-use Rattle.model.specs.Bitmaps.{placeShift, surfaceOf, Depth}
+use Rattle.model.specs.Bitmaps.{isPane, placeShift, surfaceOf, Depth}
+use Rattle.model.specs.Scissor.{Current}
 use Rattle.model.specs.declared.Geometry.{Geometry}
 use Rattle.model.specs.declared.Row.{Row}
 use Rattle.model.specs.declared.Pane.{Pane}
 use Rattle.model.specs.declared.Point.{Point}
+use Rattle.model.specs.declared.Clip.{Clip}
+use Rattle.model.specs.declared.Scissor.{Scissor}
 use Rattle.model.specs.declared.Bitmap.{Bitmap}
 use Rattle.model.specs.declared.Bitmap.the-variants as bitmap
 use Rattle.model.specs.Pixels.{Change, blend}
 use Rattle.model.specs.declared.Source.{Source}
 use Rattle.coordinates.specs.Offsets.{directed}
-use Rattle.bitmaps.specs.Areas.{areaOf, rowsEnd}
+use Rattle.bitmaps.specs.declared.areas.Area.{Area}
+use Rattle.bitmaps.specs.Areas.{landingArea, OnScreen, rowsEnd}
 use Rattle.raster.specs.Operations.{truthOf}
 use Rattle.canvas.specs.declared.Target.{Target}
 use Rattle.canvas.specs.declared.Course.{Course}
@@ -54,18 +59,61 @@ placeOn c o = offset (place (c .from)) (directed (c .heading .left) (o .x)) (dir
 
 -- ## The target of a pane's drawing commands
 
--- the active bitmap with its clip, and how the record says that its pixels are drawn
-unfoldable pub targetOf : Geometry → Row → Pane → Target
-targetOf g r p =
+-- no column and no row
+abbrev pub noLimits : Clip
+noLimits = record { xmin = 1; ymin = 1; xmax = 0; ymax = 0 }
+
+-- the columns and rows from the first to the last that a scissor holds, from the pane's corner
+abbrev pub firstToLast : Row → Scissor → Clip
+firstToLast r s =
     record {
-      area = areaOf g r (p .bitmap);
+      xmin = s .left - r .left;
+      ymin = s .top - r .top;
+      xmax = s .left - r .left + s .width - 1;
+      ymax = s .top - r .top + s .height - 1;
+    }
+
+-- .. which are 16-bit numbers
+pub record Limited (r : Row) (s : Scissor) : Type 0 where
+  pub left : r .left ≤ s .left
+  pub top : r .top ≤ s .top
+  pub wide : 0 < s .width
+  pub tall : 0 < s .height
+  pub right : s .left + s .width ≤ r .left + 65536
+  pub bottom : s .top + s .height ≤ r .top + 65536
+
+-- .. or none
+unfoldable pub limitsOf : Row → Scissor → Clip
+limitsOf r s = cond (eqb (s .width) 0) noLimits (firstToLast r s)
+
+-- "drawing on the pane takes its limits from it alone" (02, A.6), from the scissor; in the store they are the clip
+abbrev pub landingClip : Row → Bitmap → Scissor → Clip → Clip
+landingClip r bitmap.Absent s c = c
+landingClip r (bitmap.Pane xmax ymax b) s c = limitsOf r s
+landingClip r (bitmap.Store a xmax ymax b) s c = c
+
+-- an area with its limits, and how the record says that pixels are drawn
+abbrev pub targetIn : Area → Clip → Pane → Target
+targetIn area clip p =
+    record {
+      area = area;
       picking = p .flags .picking;
-      clip = p .clip;
+      clip = clip;
       pen = p .pen;
       truth = truthOf (p .pen .op);
     }
 
+-- where drawing lands by the record
+unfoldable pub targetOf : Geometry → Row → Pane → Target
+targetOf g r p = targetIn (landingArea g r (p .bitmap)) (landingClip r (p .bitmap) (p .scissor) (p .clip)) p
+
+-- what target_of counts on: the pane's corner on the screen, an operation, and a scissor that goes with the clip
+pub record Aimable (g : Geometry) (r : Row) (p : Pane) : Type 0 where
+  pub placed : OnScreen g r
+  pub op : p .pen .op < 16
+  pub scissor : Current r p
+
 -- a target is a bitmap's: the pane's pixels lie in the screen, a store bitmap's where its address says
 pub record Aimed (t : Target) (g : Geometry) (r : Row) (active : Bitmap) : Type 0 where
-  pub pane : (xmax ymax b : ℕ) → active ≡ bitmap.Pane xmax ymax b → t .area .onscreen ≡ true
-  pub surface : t .area .surface ≡ surfaceOf g r active
+  pub pane : isPane active ≡ true → t .area .onscreen ≡ true
+  pub surface : isPane active ≡ false → t .area .surface ≡ surfaceOf g r active

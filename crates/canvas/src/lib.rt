@@ -1,5 +1,7 @@
 // Drawing on the active bitmap, which lies in the screen or in the pane's store: one dot through clip,
 // transparency and pick mode. Every drawing command is a list of such dots.
+pub mod landing; // landing.rt: the limits of drawing
+
 ghost use mathlib.Core.Path.{_≡_};
 ghost use Prim.Native.Nat.{_≤_, _<_};
 ghost use lib.IntN.{pos};
@@ -8,9 +10,10 @@ ghost use Rattle.model.specs.Coordinates.{at, coord};
 ghost use Rattle.model.specs.Dots.{dot};
 ghost use Rattle.model.specs.Pixels.{penSource, patternSource};
 ghost use Rattle.canvas.specs.Canvas.{canvas, changedUnless, painted, countEnd};
-ghost use Rattle.canvas.specs.Targets.{Ready, InClip, changeWith, targetOf, courseOf, placeOn};
+ghost use Rattle.canvas.specs.Targets.{Ready, InClip, Aimable, changeWith, targetOf, courseOf, placeOn};
 use bitmaps::Area;
 use coordinates::Index;
+use landing::landing_clip;
 use model::Clip;
 use model::Frame;
 use model::Pane;
@@ -19,8 +22,9 @@ use model::Point;
 use model::Source;
 use raster::Truth;
 
-// Where and how a command draws: the area of the active bitmap, pick mode, the clip, the pen, and the truth
-// table of the pen's operation, looked up once a command.
+// Where and how a command draws: the area that it draws in, pick mode, the limits there, the pen, and the truth
+// table of the pen's operation, looked up once a command. The limits are a clip of the area: in the store the
+// record's, on the pane what its scissor holds.
 pub struct Target {
     pub area: Area,
     pub picking: bool,
@@ -31,14 +35,15 @@ pub struct Target {
 
 // Where and how a pane's record says that commands draw.
 pub fn target_of(f: Frame, p: Pane) -> Target
-    requires { ⌜ (f .geometry .width ≤ 4096) × (f .geometry .depth ≤ 8) × (p .pen .op < 16) ⌝ }
+    requires { ⌜ Aimable (f .geometry) (f .row) p ⌝ }
     ensures { λ t. ⌜ t ≡ targetOf (f .geometry) (f .row) p ⌝ }
 {
+    let row = f.row;
     let bitmap = p.bitmap;
-    let clip = p.clip;
     let pen = p.pen;
     let flags = p.flags;
-    let area = bitmaps::area_of(f, bitmap);
+    let area = bitmaps::landing_area(f, bitmap);
+    let clip = landing_clip(row, p);
     let truth = raster::truth_of(pen.op);
     Target {
         area,

@@ -2,19 +2,20 @@
 -- there, gives the whole.
 use mathlib.Core.Path.{_≡_, refl, sym, ap, ap₂, subst, _∙_}
 use mathlib.Core.Bool.{Bool, false}
-use mathlib.Core.List.{List, [], _++_}
-use Prim.Native.Nat.{ℕ, zero, suc, _+_, _-_, _*_, _≤_, _<_}
+use mathlib.Core.List.{List, []}
+use Prim.Native.Nat.{ℕ, suc, _+_, _-_, _*_, _≤_, _<_}
 use native.Mathlib.Numerals.{add-one}
 use native.Mathlib.Omega.{arith}
 use lib.ListN.{length}
 use Rattle.model.specs.declared.Point.{Point}
 use Rattle.model.specs.declared.Pen.{Pen}
 use Rattle.model.specs.declared.Text.{Text}
-use Rattle.model.specs.Ranges.{listed, joined}
+use Rattle.model.specs.Ranges.{listed}
 use Rattle.model.specs.Words.{wordAt}
 use Rattle.model.specs.Coordinates.{place}
-use Rattle.model.specs.Dots.{Dot, Drawing, drawing, prepended}
+use Rattle.model.specs.Dots.{Drawing, drawing, prepended}
 use Rattle.model.specs.Glyphs.{descriptor, heightOf, widthOf, trapOf, glyphDots, passed, trapping, string}
+use Rattle.model.proofs.DotLaws.{joined-cong}
 use Rattle.canvas.specs.declared.Target.{Target}
 use Rattle.canvas.specs.declared.Drawn.{Drawn}
 use Rattle.canvas.specs.Canvas.{canvas, Drew}
@@ -37,12 +38,6 @@ glyphDots-length pen transparent rotation store a p =
       firstRows-length pen style store a (wordAt store a) (heightOf (wordAt store a)),
       ap length (cells-glyphDots rotation p transparent pen store a refl refl),
     )
-
-joined-cong : (i n : ℕ) (f g : ℕ → List Dot) → ((j : ℕ) → i ≤ j → j < i + n → f j ≡ g j) → joined i n f ≡ joined i n g
-unfolding joined
-joined-cong i zero f g h = refl
-joined-cong i (suc n) f g h =
-    ap₂ (λ (x y : List Dot). x ++ y) (h i (omega arith) (omega arith)) (joined-cong (suc i) n f g (λ j lo hi. h j (omega arith) (omega arith)))
 
 -- one whose descriptor is in reach, read while it is drawn
 module _ {t : Target} {old new : List ℕ} (u : Agree t old new) {a : ℕ} (r : DescriptorIn t old a) where

@@ -10,12 +10,12 @@ use Rattle.model.specs.declared.Row.{Row}
 use Rattle.model.specs.declared.Surface.{Surface}
 use Rattle.model.specs.declared.Bitmap.{Bitmap}
 use Rattle.model.specs.declared.Bitmap.the-variants as bitmap
-use Rattle.model.specs.Bitmaps.{rowWords, surfaceOf, paneSurface, storeSurface, ruleBroken}
+use Rattle.model.specs.Bitmaps.{isPane, rowWords, surfaceOf, paneSurface, storeSurface, ruleBroken}
 use Rattle.model.specs.Setup.{screenBytes}
 use Rattle.model.specs.Faults.{noBitmap}
 use Rattle.model.proofs.Decisions.{holds}
 use Rattle.bitmaps.specs.Places.{Placed}
-use Rattle.bitmaps.specs.Areas.{isPane, Readable}
+use Rattle.bitmaps.specs.Areas.{Readable}
 use Rattle.bitmaps.proofs.DepthLaws.{isDepth-known}
 use Rattle.bitmaps.proofs.BitmapLaws.{ruleBroken-store}
 

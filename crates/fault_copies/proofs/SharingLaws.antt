@@ -11,11 +11,11 @@ use Rattle.model.specs.declared.Block.{Block}
 use Rattle.model.specs.declared.Surface.{Surface}
 use Rattle.model.specs.declared.Bitmap.{Bitmap}
 use Rattle.model.specs.declared.Bitmap.the-variants as bitmap
-use Rattle.model.specs.Bitmaps.{wordOf, gridBit, placeBit, bitmapBytes, touches, surfaceOf, storeSurface, Depth}
+use Rattle.model.specs.Bitmaps.{isPane, wordOf, gridBit, placeBit, bitmapBytes, touches, surfaceOf, storeSurface, Depth}
 use Rattle.model.specs.Copies.{Rectangle, rectangleOf, blockBad, blockTouches, sharing}
 use Rattle.model.proofs.SetupLaws.{any-below}
 use Rattle.model.proofs.PlaceLaws.{depth-bounds}
-use Rattle.bitmaps.specs.Areas.{isPane, areaOf}
+use Rattle.bitmaps.specs.Areas.{areaOf, landingArea}
 use Rattle.bitmaps.proofs.BytesLaws.{shareSpan-apart}
 use Rattle.fault_copies.specs.Sharing.{Aside, Unshared}
 use Rattle.fault_copies.proofs.BlockLaws.{plainRectangle, blockBad-within, word-le}
@@ -57,7 +57,7 @@ sharing-pane (bitmap.Store a xm ym m) x y b s c = refl
 module _ (g : Geometry) (r : Row) (b : Block) where
   -- pane to pane is a fault, pane and store are different buffers
   plain-unshared : (active source : Bitmap) → Depth (surfaceOf g r source .bits)
-      → sharing active source (surfaceOf g r source) (plainRectangle b) ≡ false → Unshared (areaOf g r active) (areaOf g r source) b
+      → sharing active source (surfaceOf g r source) (plainRectangle b) ≡ false → Unshared (landingArea g r active) (areaOf g r source) b
   unfolding surfaceOf storeSurface sharing
   plain-unshared active bitmap.Absent d e = absurd (let z : ⊥ = omega (arith, d .fills) in z)
   plain-unshared bitmap.Absent (bitmap.Pane xmax ymax m) d e = record { bytes = λ f. absurd (true≢false f) }
@@ -70,6 +70,6 @@ module _ (g : Geometry) (r : Row) (b : Block) where
 
   -- a block that is not bad
   pub sharing-unshared : (active source : Bitmap) → Depth (surfaceOf g r source .bits) → blockBad (surfaceOf g r source) (rectangleOf b) ≡ false
-      → sharing active source (surfaceOf g r source) (rectangleOf b) ≡ false → Unshared (areaOf g r active) (areaOf g r source) b
+      → sharing active source (surfaceOf g r source) (rectangleOf b) ≡ false → Unshared (landingArea g r active) (areaOf g r source) b
   sharing-unshared active source d e f =
       plain-unshared active source d (sym (ap (sharing active source (surfaceOf g r source)) (blockBad-within _ b e .is)) ∙ f)

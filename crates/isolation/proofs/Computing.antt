@@ -2,6 +2,7 @@
 use Rattle.model.specs.Ranges.{anyBelow, listed, joined}
 use Rattle.model.specs.Words.{bit, num, bitAt, fieldAt, splice, putField}
 use Rattle.model.specs.Bitmaps.{gridBit, placeBit, placeShift, inside, pixels, paneSurface, surfaceOf, paneBitmapBad, ruleBroken}
+use Rattle.model.specs.Scissor.{scissorOf, scissorStale}
 use Rattle.model.specs.Pixels.{blend, change, changes}
 use Rattle.model.specs.Dots.{visible, hits, changesOf}
 use Rattle.model.specs.Lines.{segmentDots, line}
@@ -17,9 +18,9 @@ use Rattle.model.specs.Calls.{part, inPart, ownRefusal, onPane, rowOf, recordOf
 use Rattle.isolation.specs.TwoRuns.{after, callsOn, repliesOn, Accepted, SamePixels, storeIn}
 
 unfoldable pub machine : Unit {0}
-unfolding anyBelow listed joined bit num bitAt fieldAt splice putField gridBit placeBit placeShift inside pixels paneSurface surfaceOf paneBitmapBad ruleBroken
-    blend change changes visible hits changesOf segmentDots line seen copyDots copy blockBad opcodeOf commandOf fetch decode clipOutside faultOf effectOf madeBy
-    paintOf planOf attempted obey step stepped follow runs barredFault judgedFault recordAfter judgedCommand met metLast listWalk verdictOf geometryBad
-    rectangleBad storeBad sharePixel shareByte checks progressBad paneBad part inPart ownRefusal onPane rowOf recordOf storeOf setupRefusal callChecks refusal
-    withPane accepted exec setUp after callsOn repliesOn Accepted SamePixels storeIn
+unfolding anyBelow listed joined bit num bitAt fieldAt splice putField gridBit placeBit placeShift inside pixels paneSurface surfaceOf paneBitmapBad
+    ruleBroken scissorOf scissorStale blend change changes visible hits changesOf segmentDots line seen copyDots copy blockBad opcodeOf commandOf fetch
+    decode clipOutside faultOf effectOf madeBy paintOf planOf attempted obey step stepped follow runs barredFault judgedFault recordAfter judgedCommand met
+    metLast listWalk verdictOf geometryBad rectangleBad storeBad sharePixel shareByte checks progressBad paneBad part inPart ownRefusal onPane rowOf
+    recordOf storeOf setupRefusal callChecks refusal withPane accepted exec setUp after callsOn repliesOn Accepted SamePixels storeIn
 machine = tt

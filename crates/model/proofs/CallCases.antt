@@ -19,7 +19,7 @@ use Rattle.model.proofs.Computing.{machine}
 
 -- ## Two panes
 
--- a record in which nothing is as in a fresh one: faulted, two return addresses kept
+-- a record in which nothing is as in a fresh one but the scissor, its bitmap being in the store: faulted, two return addresses kept
 abbrev busy : Pane
 busy =
     record {
@@ -27,6 +27,7 @@ busy =
       position = record { x = 0xFFFB; y = 7 };
       bitmap = bitmap.Store 2 15 1 1;
       clip = record { xmin = 1; ymin = 0; xmax = 14; ymax = 1 };
+      scissor = record { left = 0; top = 0; width = 0; height = 0 };
       pen = record { fore = 0x1234; back = 0x5678; op = 6; mask = 0xFF0F; pattern = 0xAAAA; transparent = true };
       text = record { spacing = 3; path = 1; rotation = 2; font = font.Byte 8 };
       flags = record { picking = true; pick = true; trap = true };
@@ -41,6 +42,7 @@ busyStarted a =
       position = record { x = 0xFFFB; y = 7 };
       bitmap = bitmap.Store 2 15 1 1;
       clip = record { xmin = 1; ymin = 0; xmax = 14; ymax = 1 };
+      scissor = record { left = 0; top = 0; width = 0; height = 0 };
       pen = record { fore = 0x1234; back = 0x5678; op = 6; mask = 0xFF0F; pattern = 0xAAAA; transparent = true };
       text = record { spacing = 3; path = 1; rotation = 2; font = font.Byte 8 };
       flags = record { picking = true; pick = true; trap = true };
@@ -55,6 +57,7 @@ asNew =
       position = record { x = 0; y = 0 };
       bitmap = bitmap.Absent;
       clip = record { xmin = 0; ymin = 0; xmax = 0; ymax = 0 };
+      scissor = record { left = 0; top = 0; width = 0; height = 0 };
       pen = record { fore = 0; back = 0; op = 5; mask = 0xFFFF; pattern = 0xFFFF; transparent = false };
       text = record { spacing = 0; path = 0; rotation = 0; font = font.Absent };
       flags = record { picking = false; pick = false; trap = false };
@@ -69,6 +72,7 @@ drawing status fault pointer x =
       position = record { x = x; y = 0 };
       bitmap = bitmap.Pane 4 0 1;
       clip = record { xmin = 0; ymin = 0; xmax = 4; ymax = 0 };
+      scissor = record { left = 9; top = 1; width = 5; height = 1 };
       pen = record { fore = 0xFFFF; back = 0; op = 5; mask = 0xFFFF; pattern = 0xFFFF; transparent = false };
       text = record { spacing = 0; path = 0; rotation = 0; font = font.Absent };
       flags = record { picking = false; pick = false; trap = false };

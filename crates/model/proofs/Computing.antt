@@ -3,6 +3,7 @@ use Rattle.model.specs.Ranges.{anyBelow, listed, joined}
 use Rattle.model.specs.Words.{bit, num, fieldAt, splice, putField}
 use Rattle.model.specs.Bitmaps.{gridBit, placeBit, placeShift, inside, pixels, paneSurface, storeSurface, surfaceOf, paneBitmapBad, storeBitmapBad}
 use Rattle.model.specs.Bitmaps.{ruleBroken, touches}
+use Rattle.model.specs.Scissor.{scissorOf, scissorStale}
 use Rattle.model.specs.Pixels.{blend, change, changes}
 use Rattle.model.specs.Dots.{visible, hits, changesOf}
 use Rattle.model.specs.Lines.{segmentDots, line, pointAt, pairsAt, segments, polyline, triplesAt, scanLines}
@@ -30,7 +31,8 @@ figuring = tt
 
 -- and everything else
 unfoldable pub machine : Unit {0}
-unfolding figuring opcodeOf commandOf fetch decode clipOutside arrayBad stringBad descriptorsBad faultOf effectOf madeBy paintOf planOf attempted obey step
-    stepped follow runs barredFault judgedFault recordAfter judgedCommand met metLast listWalk verdictOf geometryBad rectangleBad storeBad sharePixel shareByte
-    checks progressBad paneBad part inPart ownRefusal onPane rowOf recordOf storeOf setupRefusal callChecks refusal withPane accepted exec setUp
+unfolding figuring opcodeOf commandOf fetch decode clipOutside arrayBad stringBad descriptorsBad faultOf scissorOf scissorStale effectOf madeBy
+    paintOf planOf attempted obey step stepped follow runs barredFault judgedFault recordAfter judgedCommand met metLast listWalk verdictOf
+    geometryBad rectangleBad storeBad sharePixel shareByte checks progressBad paneBad part inPart ownRefusal onPane rowOf recordOf storeOf
+    setupRefusal callChecks refusal withPane accepted exec setUp
 machine = tt

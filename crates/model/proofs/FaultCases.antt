@@ -70,6 +70,7 @@ marked status n p =
       position = p .position;
       bitmap = p .bitmap;
       clip = p .clip;
+      scissor = p .scissor;
       pen = p .pen;
       text = p .text;
       flags = p .flags;

@@ -16,8 +16,9 @@ pub mod CallLaws
 pub mod PaintLaws
 pub mod RunLaws
 pub mod QuietLaws
+pub mod ScissorLaws
 -- Tests of the definitions by computation: what they are made of, then the bench figures, the script example, pictures, faults, refusals,
--- tables, and bits that do not count.
+-- records and scissors after commands and calls, tables, and bits that do not count.
 pub mod Computing
 pub mod Listings
 pub mod Scripts
@@ -39,5 +40,6 @@ pub mod RecordCases
 pub mod CallCases
 pub mod JudgeCases
 pub mod StateCases
+pub mod ScissorCases
 pub mod TableCases
 pub mod IgnoredBits

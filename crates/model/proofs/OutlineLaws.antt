@@ -15,7 +15,7 @@ use Rattle.model.specs.Dots.{keep}
 use Rattle.model.specs.Lines.{alongX, alongY, walk, visited, once}
 use Rattle.model.proofs.Decisions.{and-false, or-true}
 use Rattle.model.proofs.BitLaws.{digit-le}
-use Rattle.model.proofs.DotLaws.{length-keep, listed-last}
+use Rattle.model.proofs.DotLaws.{length-keep, listed-last, listed-cong}
 
 -- ## A list walked
 
@@ -171,12 +171,6 @@ back (negsuc n) i h = go (ℕ-discrete i (suc n))
 
 -- ## The sides
 
-listed-cong : (n i : ℕ) (f g : ℕ → Place) → ((k : ℕ) → i ≤ k → k < i + n → f k ≡ g k) → listed i n f ≡ listed i n g
-unfolding listed
-listed-cong zero i f g h = refl
-listed-cong (suc n) i f g h =
-    ap₂ {C = List Place} (λ x xs. x ∷ xs) (h i (omega arith) (omega arith)) (listed-cong n (suc i) f g λ k l m. h k (omega arith) (omega arith))
-
 module _ (p : Place) (dx dy : ℤ) where
   a : ℕ
   a = natAbs dx
@@ -224,14 +218,14 @@ module _ (p : Place) (dx dy : ℤ) where
 
       two : listed 0 (suc (natAbs dy)) (λ i. offset (offset p dx (pos 0)) (pos 0) (signAs dy i))
           ≡ listed 0 (suc (natAbs dy)) (λ j. offset p (signAs dx (natAbs dx)) (signAs dy j))
-      two = listed-cong _ 0 _ _ λ k l m. place-path
+      two = listed-cong 0 _ _ _ λ k l m. place-path
           (+ℤ-idr (p .x +ℤ dx) ∙ ap (λ z. p .x +ℤ z) (whole-sign dx))
           (ap (λ z. z +ℤ signAs dy k) (+ℤ-idr (p .y)))
 
       three : listed 0 (suc (natAbs (negℤ dx))) (λ i. offset (offset p dx dy) (signAs (negℤ dx) i) (pos 0))
           ≡ listed 0 (suc (natAbs dx)) (λ i. offset p (signAs dx (natAbs dx - i)) (signAs dy (natAbs dy)))
       three =
-          ap (λ (n : ℕ). listed 0 (suc n) (λ i. offset (offset p dx dy) (signAs (negℤ dx) i) (pos 0))) (abs-neg dx) ∙ listed-cong _ 0 _ _ λ k l m. place-path
+          ap (λ (n : ℕ). listed 0 (suc n) (λ i. offset (offset p dx dy) (signAs (negℤ dx) i) (pos 0))) (abs-neg dx) ∙ listed-cong 0 _ _ _ λ k l m. place-path
           (+ℤ-assoc (p .x) dx (signAs (negℤ dx) k) ∙ ap (λ z. p .x +ℤ z) (back dx k (omega arith)))
           (+ℤ-idr (p .y +ℤ dy) ∙ ap (λ z. p .y +ℤ z) (whole-sign dy))
 
@@ -239,7 +233,7 @@ module _ (p : Place) (dx dy : ℤ) where
           ≡ listed 0 (suc (natAbs dy)) (λ j. offset p (signAs dx 0) (signAs dy (natAbs dy - j)))
       four =
           ap (λ (n : ℕ). listed 0 (suc n) (λ i. offset (offset p (pos 0) dy) (pos 0) (signAs (negℤ dy) i))) (abs-neg dy)
-          ∙ listed-cong _ 0 _ _ λ k l m. place-path
+          ∙ listed-cong 0 _ _ _ λ k l m. place-path
           (+ℤ-idr (p .x +ℤ pos 0) ∙ ap (λ z. p .x +ℤ z) (zero-sign dx))
           (+ℤ-assoc (p .y) dy (signAs (negℤ dy) k) ∙ ap (λ z. p .y +ℤ z) (back dy k (omega arith)))
 

@@ -1,40 +1,40 @@
--- Refusal 12 (01, "Calls and their refusals, in order"): what a pane record may not have, sentence by sentence, and what it may. Each row changes
--- one thing of a good record.
+-- Refusal 12 (01, "Calls and their refusals, in order"; 02, A.6): what a pane record may not have, sentence by sentence, and what it may. Each row
+-- changes one thing of a good record.
 use mathlib.Core.Path.{_≡_, refl}
 use mathlib.Core.Bool.{Bool, true, false}
 use mathlib.Core.List.{List, [], _∷_}
 use Prim.Native.Nat.{ℕ}
 use lib.ListN.{replicate}
-use Rattle.model.specs.Bitmaps.{Bitmap}
-use Rattle.model.specs.Record.{Pane, Clip, fresh, withProgress, withPosition, withBitmap, withClip, withOperation, withSpacing, withOrientation, withFont}
-use Rattle.model.specs.Record.{withFlags, withReturns}
+use Rattle.model.specs.Bitmaps.{Row, Bitmap}
+use Rattle.model.specs.Record.{Pane, Clip, Scissor, fresh, withProgress, withPosition, withBitmap, withClip, withScissor, withOperation, withSpacing}
+use Rattle.model.specs.Record.{withOrientation, withFont, withFlags, withReturns}
 use Rattle.model.specs.Setup.{paneBad}
 use Rattle.model.specs.Calls.{State, callRefusal}
 use Rattle.model.specs.declared.Bitmap.the-variants as bitmap
 use Rattle.model.specs.declared.Font.the-variants as font
 use Rattle.model.proofs.Computing.{machine}
+use Rattle.model.proofs.Scripts.{scissor, empty}
 
 pub record Case : Type 0 where
   pub refusal : ℕ
+  pub row : Row
   pub held : Pane
 
--- a pane of 7 by 5 pixels of depth 2, its store of 40 bytes
-abbrev console : Pane → State
-console p =
+-- a pane of 7 by 5 pixels of depth 2 at so many columns and rows of the screen, its store of 40 bytes
+abbrev paneRow : ℕ → ℕ → Row
+paneRow left top = record { left = left; top = top; width = 7; height = 5; start = 0; len = 40 }
+
+abbrev console : Row → Pane → State
+console r p =
     record {
-      console = record {
-        geometry = record { width = 20; height = 10; depth = 2 };
-        count = 1;
-        rows = record { left = 3; top = 2; width = 7; height = 5; start = 0; len = 40 } ∷ [];
-        panes = p ∷ [];
-      };
+      console = record { geometry = record { width = 20; height = 10; depth = 2 }; count = 1; rows = r ∷ []; panes = p ∷ [] };
       screen = replicate 60 0;
       stores = replicate 40 0;
     }
 
 abbrev pub replied : List Case → List ℕ
 replied [] = []
-replied (c ∷ cs) = callRefusal (console (c .held)) 0 ∷ replied cs
+replied (c ∷ cs) = callRefusal (console (c .row) (c .held)) 0 ∷ replied cs
 
 abbrev pub due : List Case → List ℕ
 due [] = []
@@ -42,11 +42,18 @@ due (c ∷ cs) = c .refusal ∷ due cs
 
 -- ## Parts of the rows below
 
+-- at (3,2) of the screen, where no row says another place
 abbrev taken : Pane → Case
-taken p = record { refusal = 0; held = p }
+taken p = record { refusal = 0; row = paneRow 3 2; held = p }
 
 abbrev refused : Pane → Case
-refused p = record { refusal = 12; held = p }
+refused p = record { refusal = 12; row = paneRow 3 2; held = p }
+
+abbrev takenAt : ℕ → ℕ → Pane → Case
+takenAt left top p = record { refusal = 0; row = paneRow left top; held = p }
+
+abbrev refusedAt : ℕ → ℕ → Pane → Case
+refusedAt left top p = record { refusal = 12; row = paneRow left top; held = p }
 
 abbrev clip : ℕ → ℕ → ℕ → ℕ → Clip
 clip xmin ymin xmax ymax = record { xmin = xmin; ymin = ymin; xmax = xmax; ymax = ymax }
@@ -55,16 +62,16 @@ clip xmin ymin xmax ymax = record { xmin = xmin; ymin = ymin; xmax = xmax; ymax 
 abbrev at : ℕ → ℕ → Pane
 at status fault = withProgress fresh (record { status = status; fault = fault; pointer = 0 })
 
--- a bitmap with its clip
-abbrev drawing : Bitmap → Clip → Pane
-drawing b c = withClip (withBitmap fresh b) c
+-- a bitmap with its clip and its scissor
+abbrev drawing : Bitmap → Clip → Scissor → Pane
+drawing b c s = withScissor (withClip (withBitmap fresh b) c) s
 
 -- the pane, and 10 by 4 pixels of depth 2 at byte 8 of the store: 16 bytes
-abbrev onPane : Clip → Pane
-onPane c = drawing (bitmap.Pane 6 4 2) c
+abbrev onPane : Clip → Scissor → Pane
+onPane c s = drawing (bitmap.Pane 6 4 2) c s
 
-abbrev onStore : Clip → Pane
-onStore c = drawing (bitmap.Store 8 9 3 2) c
+abbrev onStore : Clip → Scissor → Pane
+onStore c s = drawing (bitmap.Store 8 9 3 2) c s
 
 abbrev kept : List ℕ → ℕ → Pane
 kept addresses count = withReturns fresh (record { addresses = addresses; count = count })
@@ -91,38 +98,38 @@ table =
     ∷ refused (at 1 30)
     -- ## "a bitmap breaking DEF_BITMAP's rule"
     -- the pane, with values for another row or depth
-    ∷ taken (onPane (clip 0 0 6 4))
-    ∷ refused (drawing (bitmap.Pane 5 4 2) (clip 0 0 0 0))
-    ∷ refused (drawing (bitmap.Pane 7 4 2) (clip 0 0 0 0))
-    ∷ refused (drawing (bitmap.Pane 6 3 2) (clip 0 0 0 0))
-    ∷ refused (drawing (bitmap.Pane 6 5 2) (clip 0 0 0 0))
-    ∷ refused (drawing (bitmap.Pane 6 4 1) (clip 0 0 0 0))
-    ∷ refused (drawing (bitmap.Pane 6 4 4) (clip 0 0 0 0))
+    ∷ taken (onPane (clip 0 0 6 4) (scissor 3 2 7 5))
+    ∷ refused (drawing (bitmap.Pane 5 4 2) (clip 0 0 0 0) (scissor 3 2 1 1))
+    ∷ refused (drawing (bitmap.Pane 7 4 2) (clip 0 0 0 0) (scissor 3 2 1 1))
+    ∷ refused (drawing (bitmap.Pane 6 3 2) (clip 0 0 0 0) (scissor 3 2 1 1))
+    ∷ refused (drawing (bitmap.Pane 6 5 2) (clip 0 0 0 0) (scissor 3 2 1 1))
+    ∷ refused (drawing (bitmap.Pane 6 4 1) (clip 0 0 0 0) (scissor 3 2 1 1))
+    ∷ refused (drawing (bitmap.Pane 6 4 4) (clip 0 0 0 0) (scissor 3 2 1 1))
     -- in the store: an odd address, bits that are no depth, past the end by a word and just inside
-    ∷ taken (onStore (clip 0 0 9 3))
-    ∷ refused (drawing (bitmap.Store 9 9 3 2) (clip 0 0 0 0))
-    ∷ refused (drawing (bitmap.Store 8 9 3 3) (clip 0 0 0 0))
-    ∷ refused (drawing (bitmap.Store 26 9 3 2) (clip 0 0 0 0))
-    ∷ taken (drawing (bitmap.Store 24 9 3 2) (clip 0 0 0 0))
+    ∷ taken (onStore (clip 0 0 9 3) empty)
+    ∷ refused (drawing (bitmap.Store 9 9 3 2) (clip 0 0 0 0) empty)
+    ∷ refused (drawing (bitmap.Store 8 9 3 3) (clip 0 0 0 0) empty)
+    ∷ refused (drawing (bitmap.Store 26 9 3 2) (clip 0 0 0 0) empty)
+    ∷ taken (drawing (bitmap.Store 24 9 3 2) (clip 0 0 0 0) empty)
     -- the pane's address is no address in the store
-    ∷ refused (drawing (bitmap.Store 0x200000 6 4 2) (clip 0 0 0 0))
+    ∷ refused (drawing (bitmap.Store 0x200000 6 4 2) (clip 0 0 0 0) empty)
     -- ## "a clip value outside the bitmap, or not 0 without one"
-    ∷ refused (onPane (clip 7 0 6 4))
-    ∷ refused (onPane (clip 0 5 6 4))
-    ∷ refused (onPane (clip 0 0 7 4))
-    ∷ refused (onPane (clip 0 0 6 5))
-    ∷ refused (onStore (clip 10 0 9 3))
-    ∷ refused (onStore (clip 0 4 9 3))
-    ∷ refused (onStore (clip 0 0 10 3))
-    ∷ refused (onStore (clip 0 0 9 4))
-    ∷ refused (onStore (clip 0 0 9 0xFFFF))
+    ∷ refused (onPane (clip 7 0 6 4) empty)
+    ∷ refused (onPane (clip 0 5 6 4) empty)
+    ∷ refused (onPane (clip 0 0 7 4) (scissor 3 2 8 5))
+    ∷ refused (onPane (clip 0 0 6 5) (scissor 3 2 7 6))
+    ∷ refused (onStore (clip 10 0 9 3) empty)
+    ∷ refused (onStore (clip 0 4 9 3) empty)
+    ∷ refused (onStore (clip 0 0 10 3) empty)
+    ∷ refused (onStore (clip 0 0 9 4) empty)
+    ∷ refused (onStore (clip 0 0 9 0xFFFF) empty)
     -- a maximum below its minimum may be
-    ∷ taken (onPane (clip 6 4 0 0))
-    ∷ taken (onStore (clip 9 3 0 0))
-    ∷ refused (drawing bitmap.Absent (clip 1 0 0 0))
-    ∷ refused (drawing bitmap.Absent (clip 0 1 0 0))
-    ∷ refused (drawing bitmap.Absent (clip 0 0 1 0))
-    ∷ refused (drawing bitmap.Absent (clip 0 0 0 1))
+    ∷ taken (onPane (clip 6 4 0 0) empty)
+    ∷ taken (onStore (clip 9 3 0 0) empty)
+    ∷ refused (drawing bitmap.Absent (clip 1 0 0 0) empty)
+    ∷ refused (drawing bitmap.Absent (clip 0 1 0 0) empty)
+    ∷ refused (drawing bitmap.Absent (clip 0 0 1 0) empty)
+    ∷ refused (drawing bitmap.Absent (clip 0 0 0 1) empty)
     -- ## "a font base odd or above 22 bits"
     ∷ refused (withFont fresh (font.Word 3))
     ∷ refused (withFont fresh (font.Byte 3))
@@ -140,6 +147,50 @@ table =
     -- ## "over eight return addresses"
     ∷ refused (kept (replicate 8 0) 9)
     ∷ taken (kept (replicate 8 1) 8)
+    -- ## "A pane record in which it isn't equal falls under refusal 12" (02, A.6): the scissor is "kept as left, top, width and height"
+    -- columns 1 to 4 and rows 2 to 3 of the pane are four columns from 4 and two rows from 4 of the screen
+    ∷ taken (onPane (clip 1 2 4 3) (scissor 4 4 4 2))
+    ∷ refused (onPane (clip 1 2 4 3) (scissor 4 4 5 2))
+    ∷ refused (onPane (clip 1 2 4 3) (scissor 4 4 3 2))
+    ∷ refused (onPane (clip 1 2 4 3) (scissor 4 4 4 3))
+    ∷ refused (onPane (clip 1 2 4 3) (scissor 4 4 4 1))
+    ∷ refused (onPane (clip 1 2 4 3) (scissor 5 4 4 2))
+    ∷ refused (onPane (clip 1 2 4 3) (scissor 3 4 4 2))
+    ∷ refused (onPane (clip 1 2 4 3) (scissor 4 5 4 2))
+    ∷ refused (onPane (clip 1 2 4 3) (scissor 4 3 4 2))
+    -- that of the whole pane, that of the pane's own coordinates, and none
+    ∷ refused (onPane (clip 1 2 4 3) (scissor 3 2 7 5))
+    ∷ refused (onPane (clip 1 2 4 3) (scissor 1 2 4 2))
+    ∷ refused (onPane (clip 1 2 4 3) empty)
+    -- one pixel, the last of the pane
+    ∷ taken (onPane (clip 6 4 6 4) (scissor 9 6 1 1))
+    ∷ refused (onPane (clip 6 4 6 4) empty)
+    -- "four zeros when empty": a maximum below its minimum, by one on one axis
+    ∷ taken (onPane (clip 2 0 1 4) empty)
+    ∷ refused (onPane (clip 2 0 1 4) (scissor 5 2 0 5))
+    ∷ taken (onPane (clip 0 3 6 2) empty)
+    ∷ refused (onPane (clip 0 3 6 2) (scissor 3 5 7 0))
+    ∷ refused (onPane (clip 6 4 0 0) (scissor 9 6 0 0))
+    ∷ refused (onPane (clip 6 4 0 0) (scissor 1 0 0 0))
+    ∷ refused (onPane (clip 6 4 0 0) (scissor 0 1 0 0))
+    ∷ refused (onPane (clip 6 4 0 0) (scissor 0 0 1 0))
+    ∷ refused (onPane (clip 6 4 0 0) (scissor 0 0 0 1))
+    -- "empty if the active bitmap is in the store or absent"
+    ∷ refused (onStore (clip 0 0 9 3) (scissor 3 2 7 5))
+    ∷ refused (onStore (clip 0 0 9 3) (scissor 3 2 10 4))
+    ∷ refused (onStore (clip 0 0 9 3) (scissor 1 0 0 0))
+    ∷ refused (onStore (clip 9 3 0 0) (scissor 0 0 0 1))
+    ∷ refused (withScissor fresh (scissor 3 2 7 5))
+    ∷ refused (withScissor fresh (scissor 3 2 1 1))
+    ∷ refused (withScissor fresh (scissor 0 1 0 0))
+    ∷ refused (withScissor fresh (scissor 0 0 1 0))
+    -- the row moved without a set-up, and the record kept: it holds where the pane was, unless it holds nothing
+    ∷ refusedAt 4 2 (onPane (clip 1 2 4 3) (scissor 4 4 4 2))
+    ∷ refusedAt 3 1 (onPane (clip 1 2 4 3) (scissor 4 4 4 2))
+    ∷ takenAt 4 1 (onPane (clip 1 2 4 3) (scissor 5 3 4 2))
+    ∷ takenAt 4 1 (onPane (clip 2 0 1 4) empty)
+    ∷ takenAt 4 1 (onStore (clip 0 0 9 3) empty)
+    ∷ takenAt 4 1 fresh
     -- ## What else a record holds is free
     ∷ taken (withProgress fresh (record { status = 1; fault = 0; pointer = 0xFFFFFFFF }))
     ∷ taken (withPosition fresh (record { x = 0xFFFF; y = 0x8000 }))

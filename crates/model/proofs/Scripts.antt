@@ -1,8 +1,9 @@
--- What tests are made of: a store in pieces, and what a list of calls is told and leaves.
+-- What tests are made of: a store in pieces, a scissor, and what a list of calls is told and leaves.
 use mathlib.Core.List.{List, [], _∷_, _++_}
 use Prim.Native.Nat.{ℕ, _+_}
 use lib.IntN.{ℤ, pos}
 use lib.ListN.{length, take, drop}
+use Rattle.model.specs.Record.{Scissor}
 use Rattle.model.specs.Replies.{Value, number, address, Response, refusedWith, acceptedWith}
 use Rattle.model.specs.Calls.{State, Request, exec, setUp}
 
@@ -51,3 +52,12 @@ piece a bytes = record { address = a; bytes = bytes }
 abbrev pub laid : List Piece → List ℕ → List ℕ
 laid [] store = store
 laid (p ∷ ps) store = laid ps (take (p .address) store ++ (p .bytes ++ drop (p .address + length (p .bytes)) store))
+
+-- ## A scissor
+
+abbrev pub scissor : ℕ → ℕ → ℕ → ℕ → Scissor
+scissor left top width height = record { left = left; top = top; width = width; height = height }
+
+-- "four zeros when empty" (02, A.6)
+abbrev pub empty : Scissor
+empty = scissor 0 0 0 0

@@ -1,7 +1,7 @@
--- What set-up's checks say, where they refuse nothing.
+-- What set-up's checks and refusal 12 say, where they refuse nothing.
 use mathlib.Core.Path.{_≡_, refl, sym, _∙_, subst}
 use mathlib.Core.Logic.{_≢_, _⊎_, inl, inr}
-use mathlib.Core.Bool.{Bool, true, false, not, _||_}
+use mathlib.Core.Bool.{Bool, true, false, not, _&&_, _||_}
 use mathlib.Core.List.{List}
 use Prim.Native.Nat.{ℕ, zero, suc, _+_, _*_, _%_, _≤_, _<_}
 use native.Mathlib.Omega.{arith}
@@ -13,10 +13,16 @@ use Rattle.model.specs.Numbers.{refuseGeometry, refuseOverlap, refuseRec
 use Rattle.model.specs.declared.Geometry.{Geometry}
 use Rattle.model.specs.declared.Row.{Row}
 use Rattle.model.specs.Ranges.{anyBelow, outOf}
-use Rattle.model.specs.Bitmaps.{isDepth, shareSpan, Depth}
+use Rattle.model.specs.declared.Bitmap.the-variants as bitmap
+use Rattle.model.specs.declared.Clip.{Clip}
+use Rattle.model.specs.Bitmaps.{isDepth, shareSpan, Depth, paneBitmapBad, ruleBroken}
+use Rattle.model.specs.declared.Pane.{Pane}
+use Rattle.model.specs.Faults.{clipBeyond, clipOutside}
+use Rattle.model.specs.Scissor.{clipEmpty, scissorStale}
 use Rattle.model.specs.Setup.{rowAt, geometryBad, screenBytes, mostStore, rectangleBad, storeBad, sharePixel, shareByte, checks}
+use Rattle.model.specs.Setup.{progressBad, fontBad, paneBad}
 use borrow.Author.Tests.{ltb-false, lt-ltb, eqb-true, eqb-false, not-false}
-use Rattle.model.proofs.Decisions.{both-of, either-false, either-true, cond-none, holds}
+use Rattle.model.proofs.Decisions.{both-true, both-of, either-false, either-true, cond-none, holds}
 
 -- one more: the test at n joined to those below n
 pub anyBelow-more : (f : ℕ → Bool) (n : ℕ) {b t : Bool} → b ≡ f n → t ≡ anyBelow n f → (b || t) ≡ anyBelow (n + 1) f
@@ -177,4 +183,85 @@ checks-say g n rows screen stores e =
       no-bytes =
           ordered n rows NoByte (λ a b f x h1 h2 h3 h4. f x h3 h4 h1 h2) (λ i j l h. no-byte _ _
           (any-pair n (λ i j. shareByte (rowAt rows i) (rowAt rows j)) i j (p11 .0) l h));
+    }
+
+-- ## The pane as the active bitmap, and its clip
+
+-- the pane's own width, height and depth
+pub record PaneBitmap (g : Geometry) (r : Row) (xmax ymax b : ℕ) : Type 0 where
+  pub width : xmax + 1 ≡ r .width
+  pub height : ymax + 1 ≡ r .height
+  pub depth : b ≡ g .depth
+
+paneBitmapBad-says : (g : Geometry) (r : Row) (xmax ymax b : ℕ) → paneBitmapBad g r xmax ymax b ≡ false → PaneBitmap g r xmax ymax b
+unfolding paneBitmapBad
+paneBitmapBad-says g r xmax ymax b h =
+    let p = both-true (eqb (xmax + 1) (r .width)) (eqb (ymax + 1) (r .height) && eqb b (g .depth)) (not-false _ h) in
+    let q = both-true (eqb (ymax + 1) (r .height)) (eqb b (g .depth)) (p .1) in
+    record { width = eqb-true (xmax + 1) (r .width) (p .0); height = eqb-true (ymax + 1) (r .height) (q .0); depth = eqb-true b (g .depth) (q .1) }
+
+pub ruleBroken-pane : (g : Geometry) (r : Row) (xmax ymax b : ℕ) → ruleBroken g r (bitmap.Pane xmax ymax b) ≡ false → PaneBitmap g r xmax ymax b
+unfolding ruleBroken
+ruleBroken-pane = paneBitmapBad-says
+
+-- the four values of a clip are at most these
+pub record ClipIn (xmax ymax : ℕ) (c : Clip) : Type 0 where
+  pub left : c .xmin ≤ xmax
+  pub top : c .ymin ≤ ymax
+  pub right : c .xmax ≤ xmax
+  pub bottom : c .ymax ≤ ymax
+
+pub clipBeyond-says : (xmax ymax : ℕ) (c : Clip) → clipBeyond xmax ymax c ≡ false → ClipIn xmax ymax c
+clipBeyond-says xmax ymax c h =
+    let p = either-false (ltb xmax (c .xmin)) (ltb ymax (c .ymin) || (ltb xmax (c .xmax) || ltb ymax (c .ymax))) h in
+    let q = either-false (ltb ymax (c .ymin)) (ltb xmax (c .xmax) || ltb ymax (c .ymax)) (p .1) in
+    let u = either-false (ltb xmax (c .xmax)) (ltb ymax (c .ymax)) (q .1) in
+    record {
+      left = ltb-false xmax (c .xmin) (p .0);
+      top = ltb-false ymax (c .ymin) (q .0);
+      right = ltb-false xmax (c .xmax) (u .0);
+      bottom = ltb-false ymax (c .ymax) (u .1);
+    }
+
+-- a clip that holds a pixel
+pub clipEmpty-says : (c : Clip) → clipEmpty c ≡ false → (c .xmin ≤ c .xmax) × (c .ymin ≤ c .ymax)
+clipEmpty-says c h =
+    let p = either-false (ltb (c .xmax) (c .xmin)) (ltb (c .ymax) (c .ymin)) h in
+    (ltb-false (c .xmax) (c .xmin) (p .0), ltb-false (c .ymax) (c .ymin) (p .1))
+
+-- ## Refusal 12
+
+-- what a record that it lets pass has none of
+pub record Passed (g : Geometry) (r : Row) (p : Pane) : Type 0 where
+  pub progress : progressBad (p .progress) ≡ false
+  pub rule : ruleBroken g r (p .bitmap) ≡ false
+  pub clip : clipOutside (p .bitmap) (p .clip) ≡ false
+  pub font : fontBad (p .text .font) ≡ false
+  pub op : ltb 15 (p .pen .op) ≡ false
+  pub path : ltb 3 (p .text .path) ≡ false
+  pub rotation : ltb 3 (p .text .rotation) ≡ false
+  pub returns : ltb 8 (p .returns .count) ≡ false
+  pub scissor : scissorStale r p ≡ false
+
+pub paneBad-says : (g : Geometry) (r : Row) (p : Pane) → paneBad g r p ≡ false → Passed g r p
+unfolding paneBad
+paneBad-says g r p h =
+    let a = either-false (progressBad (p .progress)) _ h in
+    let b = either-false (ruleBroken g r (p .bitmap)) _ (a .1) in
+    let c = either-false (clipOutside (p .bitmap) (p .clip)) _ (b .1) in
+    let d = either-false (fontBad (p .text .font)) _ (c .1) in
+    let e = either-false (ltb 15 (p .pen .op)) _ (d .1) in
+    let f = either-false (ltb 3 (p .text .path)) _ (e .1) in
+    let i = either-false (ltb 3 (p .text .rotation)) _ (f .1) in
+    let j = either-false (ltb 8 (p .returns .count)) (scissorStale r p) (i .1) in
+    record {
+      progress = a .0;
+      rule = b .0;
+      clip = c .0;
+      font = d .0;
+      op = e .0;
+      path = f .0;
+      rotation = i .0;
+      returns = j .0;
+      scissor = j .1;
     }

@@ -52,6 +52,7 @@ pub after-forwards :
       position = record { x = 7; y = 1 };
       bitmap = bitmap.Store 0xA0 9 2 4;
       clip = record { xmin = 1; ymin = 0; xmax = 8; ymax = 2 };
+      scissor = record { left = 0; top = 0; width = 0; height = 0 };
       pen = record { fore = 0x1111; back = 0x2222; op = 7; mask = 0x3333; pattern = 0xC444; transparent = false };
       text = record { spacing = 5; path = 1; rotation = 2; font = font.Word 0x20666 };
       flags = record { picking = true; pick = false; trap = false };
@@ -67,6 +68,7 @@ pub after-backwards :
       position = record { x = 0xFFFD; y = 0x8000 };
       bitmap = bitmap.Pane 15 1 1;
       clip = record { xmin = 0; ymin = 0; xmax = 15; ymax = 1 };
+      scissor = record { left = 0; top = 0; width = 16; height = 2 };
       pen = record { fore = 0xDDDD; back = 0xEEEE; op = 9; mask = 0xCCCC; pattern = 0xBBBB; transparent = true };
       text = record { spacing = 0xFFFE; path = 3; rotation = 1; font = font.Byte 0x30AAA };
       flags = record { picking = false; pick = true; trap = false };

@@ -2,7 +2,7 @@
 -- The pane and a bitmap in the store are one kind of surface.
 use Prim.Native.Nat.{ℕ, _+_, _-_, _*_, _/_, _%_, _≤_}
 use mathlib.Core.Path.{_≡_}
-use mathlib.Core.Bool.{Bool, false, cond, not, _&&_, _||_}
+use mathlib.Core.Bool.{Bool, true, false, cond, not, _&&_, _||_}
 use mathlib.Core.List.{List}
 use lib.Dec.{ltb, eqb}
 use lib.ListN.{length}
@@ -92,6 +92,12 @@ storeSurface a xmax ymax b =
 -- no pixels
 abbrev pub nowhere : Surface
 nowhere = record { base = 0; words = 0; bits = 0; left = 0; top = 0; width = 0; height = 0 }
+
+-- a bitmap is the pane
+abbrev pub isPane : Bitmap → Bool
+isPane bitmap.Absent = false
+isPane (bitmap.Pane xmax ymax b) = true
+isPane (bitmap.Store a xmax ymax b) = false
 
 unfoldable pub surfaceOf : Geometry → Row → Bitmap → Surface
 surfaceOf g r bitmap.Absent = nowhere

@@ -42,14 +42,16 @@ abbrev pub below : ℕ → ℤ → Bool
 below n (pos k) = ltb k n
 below n (negsuc k) = false
 
+-- a place that "lies in bitmap and clip"
+abbrev pub lies : Surface → Clip → Place → Bool
+lies s c p =
+    below (s .width) (p .x)
+    && (below (s .height) (p .y) && (between (c .xmin) (c .xmax) (p .x) && between (c .ymin) (c .ymax) (p .y)))
+
 -- "A pixel is drawn if it lies in bitmap and clip and isn't a 0 of a pattern or cell under transparency; a
 -- copied 0 is drawn"
 unfoldable pub visible : Surface → Clip → Dot → Bool
-visible s c d =
-    something (d .source)
-    && (below (s .width) (d .place .x)
-    && (below (s .height) (d .place .y)
-    && (between (c .xmin) (c .xmax) (d .place .x) && between (c .ymin) (c .ymax) (d .place .y))))
+visible s c d = something (d .source) && lies s c (d .place)
 
 -- how many dots are visible
 unfoldable pub hits : Surface → Clip → List Dot → ℕ

@@ -7,9 +7,9 @@ use lib.ListN.{getD, set}
 use Rattle.model.specs.Ranges.{listed}
 use Rattle.model.specs.Coordinates.{coord, moved}
 use Rattle.model.specs.Bitmaps.{Geometry, Row, bitmapOf}
-use Rattle.model.specs.Record.{Pane, Clip, Font, Returns, withPointer, withPosition, withBitmap, withClip}
-use Rattle.model.specs.Record.{withReturns, withColours, withOperation, withPattern, withSpacing}
-use Rattle.model.specs.Record.{withOrientation, withFont, withPicking}
+use Rattle.model.specs.Record.{Pane, Clip, Font, Returns, withPointer, withPosition, withReturns, withColours}
+use Rattle.model.specs.Record.{withOperation, withPattern, withSpacing, withOrientation, withFont, withPicking}
+use Rattle.model.specs.Scissor.{withBitmapAndClip}
 use Rattle.model.specs.declared.Font.the-variants as font
 use Rattle.model.specs.Dots.{Drawing}
 use Rattle.model.specs.Lines.{line, pointAt, rectangle, pairsAt, polyline, triplesAt, scanLines}
@@ -61,7 +61,7 @@ effectOf g r p pixelOf store next command.Return =
     becomes (withPointer (withReturns p (withoutLatest (p .returns))) (latest (p .returns)))
 -- "It sets the clip to the whole bitmap"
 effectOf g r p pixelOf store next (command.DefBitmap a xmax ymax b) =
-    becomes (withPointer (withClip (withBitmap p (bitmapOf a xmax ymax b)) (wholeClip xmax ymax)) next)
+    becomes (withPointer (withBitmapAndClip r p (bitmapOf a xmax ymax b) (wholeClip xmax ymax)) next)
 effectOf g r p pixelOf store next (command.DefColors fore back) = becomes (withPointer (withColours p fore back) next)
 -- "the low four bits of the code count"
 effectOf g r p pixelOf store next (command.DefLogicalOp mask code) =
@@ -70,7 +70,8 @@ effectOf g r p pixelOf store next (command.DefLogicalOp mask code) =
 effectOf g r p pixelOf store next command.EnterPick = becomes (withPointer (withPicking p true false) next)
 effectOf g r p pixelOf store next command.ExitPick = becomes (withPointer (withPicking p false (p .flags .pick)) next)
 effectOf g r p pixelOf store next (command.DefClipRect xmin ymin xmax ymax) =
-    becomes (withPointer (withClip p (record { xmin = xmin; ymin = ymin; xmax = xmax; ymax = ymax })) next)
+    becomes (withPointer
+    (withBitmapAndClip r p (p .bitmap) (record { xmin = xmin; ymin = ymin; xmax = xmax; ymax = ymax })) next)
 effectOf g r p pixelOf store next (command.DefSpace spacing) = becomes (withPointer (withSpacing p spacing) next)
 -- "DEF_CHAR_ORIENT has the path in bits 9 and 8 of its word, the rotation in bits 1 and 0"
 effectOf g r p pixelOf store next (command.DefCharOrient orientation) =

@@ -6,6 +6,7 @@ pub mod Words
 pub mod Coordinates
 pub mod Bitmaps
 pub mod Record
+pub mod Scissor
 pub mod Operations
 pub mod Pixels
 pub mod Dots
@@ -22,4 +23,5 @@ pub mod Judge
 pub mod Setup
 pub mod Replies
 pub mod Calls
+pub mod ScissorKept
 pub mod Figures

@@ -9,6 +9,7 @@ pub use Rattle.model.specs.declared.Point.{Point}
 pub use Rattle.model.specs.declared.Bitmap.{Bitmap}
 use Rattle.model.specs.declared.Bitmap.the-variants as bitmap
 pub use Rattle.model.specs.declared.Clip.{Clip}
+pub use Rattle.model.specs.declared.Scissor.{Scissor}
 pub use Rattle.model.specs.declared.Pen.{Pen}
 pub use Rattle.model.specs.declared.Font.{Font}
 use Rattle.model.specs.declared.Font.the-variants as font
@@ -24,13 +25,18 @@ replaceCode = 5
 abbrev pub noClip : Clip
 noClip = record { xmin = 0; ymin = 0; xmax = 0; ymax = 0 }
 
+-- "four zeros when empty" (02, A.6)
+abbrev pub noScissor : Scissor
+noScissor = record { left = 0; top = 0; width = 0; height = 0 }
+
 -- "no return addresses": a slot that holds none holds 0
 abbrev pub noReturns : Returns
 noReturns = record { addresses = replicate 8 0; count = 0 }
 
 -- "A fresh pane record: status 0, fault 0, pointer 0, position (0,0), no bitmap, clip all 0, both colours 0,
 -- operation "replace" (new bit = source bit), colour mask FFFF hex, pattern FFFF hex opaque, spacing 0, path
--- and rotation 0, no font, pick mode off, pick and trap flags 0, no return addresses"
+-- and rotation 0, no font, pick mode off, pick and trap flags 0, no return addresses"; and no scissor, there
+-- being no bitmap (02, A.6)
 abbrev pub fresh : Pane
 fresh =
     record {
@@ -38,6 +44,7 @@ fresh =
       position = record { x = 0; y = 0 };
       bitmap = bitmap.Absent;
       clip = noClip;
+      scissor = noScissor;
       pen = record { fore = 0; back = 0; op = replaceCode; mask = 0xFFFF; pattern = 0xFFFF; transparent = false };
       text = record { spacing = 0; path = 0; rotation = 0; font = font.Absent };
       flags = record { picking = false; pick = false; trap = false };
@@ -52,6 +59,7 @@ noPane =
       position = record { x = 0; y = 0 };
       bitmap = bitmap.Absent;
       clip = noClip;
+      scissor = noScissor;
       pen = record { fore = 0; back = 0; op = 0; mask = 0; pattern = 0; transparent = false };
       text = record { spacing = 0; path = 0; rotation = 0; font = font.Absent };
       flags = record { picking = false; pick = false; trap = false };
@@ -60,14 +68,15 @@ noPane =
 
 -- ## A record with one part replaced, all else kept
 
--- a pane record by its eight parts
-abbrev pub paneOf : Progress → Point → Bitmap → Clip → Pen → Text → Flags → Returns → Pane
-paneOf progress position bitmap clip pen text flags returns =
+-- a pane record by its nine parts
+abbrev pub paneOf : Progress → Point → Bitmap → Clip → Scissor → Pen → Text → Flags → Returns → Pane
+paneOf progress position bitmap clip scissor pen text flags returns =
     record {
       progress = progress;
       position = position;
       bitmap = bitmap;
       clip = clip;
+      scissor = scissor;
       pen = pen;
       text = text;
       flags = flags;
@@ -75,28 +84,31 @@ paneOf progress position bitmap clip pen text flags returns =
     }
 
 abbrev pub withProgress : Pane → Progress → Pane
-withProgress p x = paneOf x (p .position) (p .bitmap) (p .clip) (p .pen) (p .text) (p .flags) (p .returns)
+withProgress p x = paneOf x (p .position) (p .bitmap) (p .clip) (p .scissor) (p .pen) (p .text) (p .flags) (p .returns)
 
 abbrev pub withPosition : Pane → Point → Pane
-withPosition p x = paneOf (p .progress) x (p .bitmap) (p .clip) (p .pen) (p .text) (p .flags) (p .returns)
+withPosition p x = paneOf (p .progress) x (p .bitmap) (p .clip) (p .scissor) (p .pen) (p .text) (p .flags) (p .returns)
 
 abbrev pub withBitmap : Pane → Bitmap → Pane
-withBitmap p x = paneOf (p .progress) (p .position) x (p .clip) (p .pen) (p .text) (p .flags) (p .returns)
+withBitmap p x = paneOf (p .progress) (p .position) x (p .clip) (p .scissor) (p .pen) (p .text) (p .flags) (p .returns)
 
 abbrev pub withClip : Pane → Clip → Pane
-withClip p x = paneOf (p .progress) (p .position) (p .bitmap) x (p .pen) (p .text) (p .flags) (p .returns)
+withClip p x = paneOf (p .progress) (p .position) (p .bitmap) x (p .scissor) (p .pen) (p .text) (p .flags) (p .returns)
+
+abbrev pub withScissor : Pane → Scissor → Pane
+withScissor p x = paneOf (p .progress) (p .position) (p .bitmap) (p .clip) x (p .pen) (p .text) (p .flags) (p .returns)
 
 abbrev pub withPen : Pane → Pen → Pane
-withPen p x = paneOf (p .progress) (p .position) (p .bitmap) (p .clip) x (p .text) (p .flags) (p .returns)
+withPen p x = paneOf (p .progress) (p .position) (p .bitmap) (p .clip) (p .scissor) x (p .text) (p .flags) (p .returns)
 
 abbrev pub withText : Pane → Text → Pane
-withText p x = paneOf (p .progress) (p .position) (p .bitmap) (p .clip) (p .pen) x (p .flags) (p .returns)
+withText p x = paneOf (p .progress) (p .position) (p .bitmap) (p .clip) (p .scissor) (p .pen) x (p .flags) (p .returns)
 
 abbrev pub withFlags : Pane → Flags → Pane
-withFlags p x = paneOf (p .progress) (p .position) (p .bitmap) (p .clip) (p .pen) (p .text) x (p .returns)
+withFlags p x = paneOf (p .progress) (p .position) (p .bitmap) (p .clip) (p .scissor) (p .pen) (p .text) x (p .returns)
 
 abbrev pub withReturns : Pane → Returns → Pane
-withReturns p x = paneOf (p .progress) (p .position) (p .bitmap) (p .clip) (p .pen) (p .text) (p .flags) x
+withReturns p x = paneOf (p .progress) (p .position) (p .bitmap) (p .clip) (p .scissor) (p .pen) (p .text) (p .flags) x
 
 -- ## Parts of parts
 

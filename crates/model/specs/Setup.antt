@@ -12,6 +12,7 @@ use Rattle.model.specs.Bitmaps.{Geometry, Row, isDepth, rowWords, ruleBr
 use Rattle.model.specs.Record.{Pane, Progress, Font, noPane}
 use Rattle.model.specs.declared.Font.the-variants as font
 use Rattle.model.specs.Faults.{clipOutside}
+use Rattle.model.specs.Scissor.{scissorStale}
 
 -- what the logic reads past the end of a list of rows
 abbrev pub noRow : Row
@@ -92,11 +93,14 @@ fontBad (font.Word a) = baseBad a
 fontBad (font.Byte a) = baseBad a
 
 -- "12 the pane record has .. a bitmap breaking DEF_BITMAP's rule; a clip value outside the bitmap, or not 0
--- without one; ..; an operation above 15; a path or rotation above 3; over eight return addresses"
+-- without one; ..; an operation above 15; a path or rotation above 3; over eight return addresses"; or a scissor
+-- that isn't what would be computed afresh (02, A.6)
 unfoldable pub paneBad : Geometry → Row → Pane → Bool
 paneBad g r p =
     progressBad (p .progress)
     || (ruleBroken g r (p .bitmap)
     || (clipOutside (p .bitmap) (p .clip)
     || (fontBad (p .text .font)
-    || (ltb 15 (p .pen .op) || (ltb 3 (p .text .path) || (ltb 3 (p .text .rotation) || ltb 8 (p .returns .count)))))))
+    || (ltb 15 (p .pen .op)
+    || (ltb 3 (p .text .path)
+    || (ltb 3 (p .text .rotation) || (ltb 8 (p .returns .count) || scissorStale r p)))))))

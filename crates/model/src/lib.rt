@@ -1,9 +1,10 @@
 // The plain data of the pane console that all crates share: structs and enums by value. What they mean is
-// stated in specs/, in the order of the paper. The two functions do nothing: their contracts are the theorem
-// over the bench figures and that over CIRCLE's points.
+// stated in specs/, in the order of the paper. The three functions do nothing: their contracts are the theorems
+// over the bench figures, over CIRCLE's points and over the scissor.
 ghost use Prim.Native.Nat.{ℕ};
 ghost use Rattle.model.specs.Circles.{CirclePoints};
 ghost use Rattle.model.specs.Figures.{All, table};
+ghost use Rattle.model.specs.ScissorKept.{ScissorKept};
 
 // ---- Screen, panes, stores
 
@@ -77,6 +78,15 @@ pub struct Clip {
     pub ymax: u16,
 }
 
+// The scissor (02, A.6): "the rectangle in screen coordinates where drawing can land", four zeros where it can
+// land nowhere.
+pub struct Scissor {
+    pub left: u32,
+    pub top: u32,
+    pub width: u32,
+    pub height: u32,
+}
+
 // What pixels are drawn with: colours, raster operation with its mask, pattern.
 pub struct Pen {
     pub fore: u16,
@@ -129,6 +139,7 @@ pub struct Pane {
     pub position: Point,
     pub bitmap: Bitmap,
     pub clip: Clip,
+    pub scissor: Scissor,
     pub pen: Pen,
     pub text: Text,
     pub flags: Flags,
@@ -357,4 +368,12 @@ pub fn figures_hold()
 // so that no check passes without it.
 pub fn circles_hold()
     ensures { λ r. ⌜ ((radius : ℕ) → CirclePoints radius) ⌝ }
+{}
+
+// ---- The scissor
+
+// Does nothing. Its contract is that the scissor holds exactly the pane's pixels in bitmap and clip and that every
+// call and command keeps it, so that no check passes without it.
+pub fn scissor_holds()
+    ensures { λ r. ⌜ ScissorKept ⌝ }
 {}

@@ -15,7 +15,7 @@ use Rattle.model.specs.declared.Bitmap.{Bitmap}
 use Rattle.model.specs.declared.Block.{Block}
 use Rattle.model.specs.declared.Command.{Command}
 use Rattle.model.specs.declared.Command.the-variants as command
-use Rattle.model.specs.Bitmaps.{surfaceOf, paneSurface, pixels}
+use Rattle.model.specs.Bitmaps.{isPane, surfaceOf, paneSurface, pixels}
 use Rattle.model.specs.Dots.{Drawing}
 use Rattle.model.specs.Ranges.{listed}
 use Rattle.model.specs.Coordinates.{coord, moved}
@@ -29,7 +29,7 @@ use Rattle.model.specs.Runs.{mostPixels}
 use Rattle.model.proofs.Command.{the-type}
 use Rattle.model.proofs.Decisions.{cond-none}
 use Rattle.bitmaps.specs.declared.areas.Area.{Area}
-use Rattle.bitmaps.specs.Areas.{isPane, areaOf}
+use Rattle.bitmaps.specs.Areas.{areaOf}
 use Rattle.bitmaps.proofs.AreaLaws.{source-named}
 use Rattle.canvas.specs.declared.Target.{Target}
 use Rattle.canvas.specs.declared.Drawn.{Drawn}
@@ -39,7 +39,7 @@ use Rattle.canvas.proofs.LoopLaws.{drew-hits}
 use Rattle.bitmaps.proofs.BytesLaws.{arrayBad-bytes}
 use Rattle.canvas.proofs.ReachLaws.{bytesBad-reach, aimed-of}
 use Rattle.draw_copies.specs.Transfers.{Copyable}
-use Rattle.draw_copies.proofs.SourceLaws.{copyFault-copyable, seen-pixels}
+use Rattle.draw_copies.proofs.SourceLaws.{copyFault-copyable, seen-pixels, block-landing, copy-landing}
 use Rattle.draw_text.specs.Writing.{Legible, Writable}
 use Rattle.draw_text.proofs.LegibleLaws.{char-legible}
 use Rattle.perform.specs.Performing.{Allowed, Carries}
@@ -55,6 +55,12 @@ module _ {g : Geometry} {r : Row} {p : Pane} {screen : ℕ} {store : List ℕ} {
 
   pub drawing-active : {k : Command} → c ≡ k → OneOf drawingTags (tagOf the-type k) → noBitmap (p .bitmap) ≡ false
   drawing-active {k} told kind = drawing-draws g r p (λ x y. 0) store 0 k kind .active (clear-as told)
+
+  -- BIT_BLT's block lies in the active bitmap
+  bit-blt-block : {b : Block} → c ≡ command.BitBlt b → blockBad (surfaceOf g r (p .bitmap)) (rectangleOf b) ≡ false
+  unfolding faultOf
+  bit-blt-block {b} told =
+      cond-none (blockBad (surfaceOf g r (p .bitmap)) (rectangleOf b)) _ _ tt (drawFault-none (p .bitmap) _ (clear-as told) .1) .0
 
   -- ## .. of the pane's target
 
@@ -81,12 +87,12 @@ module _ {g : Geometry} {r : Row} {p : Pane} {screen : ℕ} {store : List ℕ} {
     scan-lines-reach {a} {n} told =
         array-reach a (6 * n) (cond-none (arrayBad r (p .bitmap) a (6 * n)) _ _ tt (drawFault-none (p .bitmap) _ (clear-as told) .1) .0)
 
-    -- BIT_BLT's block lies in the active bitmap
+    -- .. and so in the area that commands draw in
     pub bit-blt-inside : {b : Block} → c ≡ command.BitBlt b → blockBad (t .area .surface) (rectangleOf b) ≡ false
-    unfolding faultOf targetOf
+    unfolding targetOf
     bit-blt-inside {b} told =
         subst (λ (z : Target). blockBad (z .area .surface) (rectangleOf b) ≡ false) (sym aim)
-        (cond-none (blockBad (surfaceOf g r (p .bitmap)) (rectangleOf b)) _ _ tt (drawFault-none (p .bitmap) _ (clear-as told) .1) .0)
+        (block-landing g r (h .sound .placed) (p .bitmap) b (bit-blt-block told))
 
     -- BIT_BLT_M's source can be copied
     pub bit-blt-m-copyable : {a xmax ymax : ℕ} {b : Block} {source : Area} → c ≡ command.BitBltM a xmax ymax b
@@ -201,15 +207,16 @@ module _ (g : Geometry) (r : Row) (p : Pane) (screen store : List ℕ) (d : Draw
         (seen-pixels g r b screen store named))
         (copy-few _ _ _ block)
 
-    pub bit-blt-carries : {b : Block} → c ≡ command.BitBlt b → noBitmap (p .bitmap) ≡ false
+    pub bit-blt-carries : {b : Block} → c ≡ command.BitBlt b → Allowed g r p (length screen) store c
         → Drew t (copy (pixels (t .area .surface) (cond (t .area .onscreen) screen store)) (p .text .spacing) (p .position) (rectangleOf b))
         (canvas screen store 0) d screen′ store′
         → Carries g r p c screen store d screen′ store′
     unfolding effectOf targetOf
-    bit-blt-carries {b} told named h =
-        copy-carries (command.BitBlt b) (p .bitmap) b told named (λ next. refl)
-        (subst (λ (a : Area). Drew t (copy (pixels (a .surface) (cond (a .onscreen) screen store)) (p .text .spacing) (p .position) (rectangleOf b))
-        (canvas screen store 0) d screen′ store′) (ap (λ (z : Target). z .area) aim) h)
+    bit-blt-carries {b} told allowed h =
+        copy-carries (command.BitBlt b) (p .bitmap) b told (drawing-active allowed told (hit drawingTags 19 tt)) (λ next. refl)
+        (subst (λ (w : Drawing). Drew t w (canvas screen store 0) d screen′ store′)
+        (ap (λ (z : Target). copy (pixels (z .area .surface) (cond (z .area .onscreen) screen store)) (p .text .spacing) (p .position) (rectangleOf b)) aim
+        ∙ copy-landing g r (allowed .sound .placed) (p .bitmap) b (bit-blt-block allowed told) screen store (p .text .spacing) (p .position)) h)
 
     pub bit-blt-m-carries : {a xmax ymax : ℕ} {b : Block} {source : Area} → c ≡ command.BitBltM a xmax ymax b
         → source ≡ areaOf g r (sourceBitmap g r (p .bitmap) a xmax ymax)

@@ -1,8 +1,7 @@
 -- A sound pane with an active bitmap is ready to be drawn on.
 use mathlib.Core.Path.{_≡_, refl, _∙_}
-use mathlib.Core.Bool.{false, cond}
-use mathlib.Core.List.{List}
-use Prim.Native.Nat.{ℕ, _+_, _≤_, _<_}
+use mathlib.Core.Bool.{false}
+use Prim.Native.Nat.{ℕ, _+_, _-_, _*_, _≤_}
 use native.Mathlib.Omega.{arith}
 use lib.ListN.{length, replicate, length-replicate}
 use Rattle.model.specs.declared.Geometry.{Geometry}
@@ -10,58 +9,87 @@ use Rattle.model.specs.declared.Row.{Row}
 use Rattle.model.specs.declared.Pane.{Pane}
 use Rattle.model.specs.declared.Bitmap.{Bitmap}
 use Rattle.model.specs.declared.Bitmap.the-variants as bitmap
-use Rattle.model.specs.declared.Surface.{Surface}
-use Rattle.model.specs.Bitmaps.{surfaceOf, paneSurface, storeSurface, ruleBroken, Fits}
+use Rattle.model.specs.declared.Clip.{Clip}
+use Rattle.model.specs.declared.Scissor.{Scissor}
+use Rattle.model.specs.Bitmaps.{rowWords, surfaceOf, storeSurface}
 use Rattle.model.specs.Faults.{noBitmap}
-use Rattle.bitmaps.specs.Places.{Placed}
-use Rattle.bitmaps.specs.Areas.{Active, isPane}
+use Rattle.model.proofs.SetupLaws.{depth-of}
+use Rattle.bitmaps.specs.Places.{Placed, Cornered}
+use Rattle.bitmaps.specs.Areas.{Active, screenFrom, landingArea}
 use Rattle.bitmaps.proofs.AreaLaws.{placed-sizes}
-use Rattle.bitmaps.proofs.BitmapLaws.{ruleBroken-store, bitmap-fits-screen, bitmap-fits-store, clip-within}
-use Rattle.canvas.specs.Targets.{Ready, targetOf}
+use Rattle.bitmaps.proofs.BitmapLaws.{ruleBroken-store, bitmap-fits-store, clip-within}
+use Rattle.canvas.specs.Targets.{Ready, Aimable, landingClip, targetIn, targetOf}
+use Rattle.canvas.proofs.LandingLaws.{Landing, limits-within}
 use Rattle.perform.specs.Performing.{Sound}
 
 -- what the target of a pane is made from
-pub sound-sizes : {g : Geometry} {r : Row} {p : Pane} {m n : ℕ} → Sound g r p m n
-    → (g .width ≤ 4096) × (g .depth ≤ 8) × (p .pen .op < 16)
-sound-sizes s = let sizes = placed-sizes (s .placed) in (sizes .0, sizes .1, omega (arith, s .good .op))
+pub sound-aimable : {g : Geometry} {r : Row} {p : Pane} {m n : ℕ} → Sound g r p m n → Aimable g r p
+sound-aimable s =
+    let sizes = placed-sizes (s .placed) in
+    record {
+      placed = record { width = sizes .0; depth = sizes .1; left = omega (arith, s .placed .right); top = omega (arith, s .placed .bottom) };
+      op = omega (arith, s .good .op);
+      scissor = s .good .scissor;
+    }
+
+-- .. where its corner is
+pub sound-corner : {g : Geometry} {r : Row} {p : Pane} {m n : ℕ} → Sound g r p m n → Cornered r
+sound-corner s = record {
+  left = omega (arith, s .placed .right, s .placed .width);
+  top = omega (arith, s .placed .bottom, s .placed .height);
+}
+
+-- .. what its scissor holds
+pub sound-landing : {g : Geometry} {r : Row} {p : Pane} {m n : ℕ} → Sound g r p m n → Landing g r (p .bitmap) (p .clip) (p .scissor)
+sound-landing s = record {
+  right = s .placed .right;
+  bottom = s .placed .bottom;
+  rule = s .good .rule;
+  clip = s .good .clip;
+  scissor = s .good .scissor;
+}
 
 -- .. and what its active bitmap is
 pub sound-active : {g : Geometry} {r : Row} {p : Pane} {m n : ℕ} → Sound g r p m n → Active g r (p .bitmap)
 sound-active s = record { screen = _; store = _; placed = s .placed; rule = s .good .rule }
 
--- a surface of so many columns lies in its buffer
-record Room (s : Surface) (size : ℕ) : Type 0 where
-  fits : (l : List ℕ) → length l ≡ size → Fits s l
-  small : s .left + s .width ≤ 65536
+-- a row of the screen has room for its pixels
+row-room : (g : Geometry) → g .width * g .depth ≤ 16 * rowWords (g .width) (g .depth)
+row-room g = omega arith
 
-room : (g : Geometry) (r : Row) (b : Bitmap) (m n : ℕ) → Placed g r m n → noBitmap b ≡ false → ruleBroken g r b ≡ false
-    → Room (surfaceOf g r b) (cond (isPane b) m n)
-unfolding surfaceOf paneSurface storeSurface
-room g r bitmap.Absent m n p e h = let z : _≡_ {A = ℕ} 0 1 = cc in absurd (let f : ⊥ = omega arith in f)
-room g r (bitmap.Pane x y b) m n p e h = record {
-  fits = λ l q. bitmap-fits-screen g r l n x y b (rw q p);
-  small = omega (arith, p .right, p .width);
-}
-room g r (bitmap.Store a x y b) m n p e h = record {
-  fits = λ l q. bitmap-fits-store g r l a x y b h (q ∙ p .part);
-  small = omega (arith, ruleBroken-store g r x y b a h .right);
-}
+module _ (g : Geometry) (r : Row) (p : Pane) {m n : ℕ} (h : Placed g r m n) where
+  ready-by : (b : Bitmap) (c : Clip) (s : Scissor) → Landing g r b c s → noBitmap b ≡ false
+      → Ready (targetIn (landingArea g r b) (landingClip r b s c) p) m n
+  unfolding surfaceOf screenFrom storeSurface
+  ready-by bitmap.Absent c s l a = let z : _≡_ {A = ℕ} 0 1 = cc in absurd (let f : ⊥ = omega arith in f)
+  ready-by (bitmap.Pane x y b) c s l a =
+      let across : r .left + (g .width - r .left) ≡ g .width = omega (arith, h .right) in
+      let down : r .top + (g .height - r .top) ≡ g .height = omega (arith, h .bottom) in
+      let w = limits-within g r c l (h .wide) (h .tall) in
+      record {
+        depth = depth-of (g .depth) (h .depth);
+        right = rw across (row-room g);
+        small = omega (arith, across, h .width);
+        long = rw down (omega (arith, h .long));
+        east = omega (arith, w .0, h .right);
+        south = omega (arith, w .1, h .bottom);
+        table = refl;
+      }
+  ready-by (bitmap.Store at x y b) c s l a =
+      let e : length (replicate {A = ℕ} n 0) ≡ n = length-replicate {A = ℕ} n 0 in
+      let f = bitmap-fits-store g r (replicate {A = ℕ} n 0) at x y b (l .rule) (e ∙ h .part) in
+      let w = clip-within g r (bitmap.Store at x y b) c a (l .rule) (l .clip) in
+      record {
+        depth = f .depth;
+        right = f .right;
+        small = omega (arith, ruleBroken-store g r x y b at (l .rule) .right);
+        long = omega (arith, f .long, e);
+        east = w .right;
+        south = w .bottom;
+        table = refl;
+      }
 
 pub ready-of : (g : Geometry) (r : Row) (p : Pane) (m n : ℕ) → Sound g r p m n → noBitmap (p .bitmap) ≡ false
     → Ready (targetOf g r p) m n
 unfolding targetOf
-ready-of g r p m n h a =
-    let size : ℕ = cond (isPane (p .bitmap)) m n in
-    let o = room g r (p .bitmap) m n (h .placed) a (h .good .rule) in
-    let e : length (replicate {A = ℕ} size 0) ≡ size = length-replicate {A = ℕ} size 0 in
-    let f = o .fits (replicate {A = ℕ} size 0) e in
-    let c = clip-within g r (p .bitmap) (p .clip) a (h .good .rule) (h .good .clip) in
-    record {
-      depth = f .depth;
-      right = f .right;
-      small = o .small;
-      long = omega (arith, f .long, e);
-      east = c .right;
-      south = c .bottom;
-      table = refl;
-    }
+ready-of g r p m n h a = ready-by g r p (h .placed) (p .bitmap) (p .clip) (p .scissor) (sound-landing h) a

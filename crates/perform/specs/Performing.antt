@@ -14,7 +14,7 @@ use Rattle.model.specs.Effects.{becomes, draws, effectOf}
 use Rattle.model.specs.Faults.{contextOf, faultOf}
 use Rattle.model.specs.Runs.{Finish, carried, mostPixels}
 use Rattle.model.specs.Steps.{drewPane, planOf}
-use Rattle.bitmaps.specs.Places.{Placed}
+use Rattle.bitmaps.specs.Places.{Placed, Cornered}
 use Rattle.refusals.specs.Good.{Good}
 use Rattle.canvas.specs.declared.Drawn.{Drawn}
 use Rattle.canvas.specs.Canvas.{canvas, Drew}
@@ -47,17 +47,17 @@ performed g r p next c screen store =
 
 -- ## The commands that draw nothing
 
--- free of faults, with at most eight return addresses
-pub record Settling (p : Pane) (c : Command) : Type 0 where
+-- free of faults, with at most eight return addresses, of a pane whose corner lies on the screen
+pub record Settling (r : Row) (p : Pane) (c : Command) : Type 0 where
   pub geometry : Geometry
-  pub row : Row
   pub store : List ℕ
-  pub clear : faultOf geometry row (contextOf p) store c ≡ 0
+  pub clear : faultOf geometry r (contextOf p) store c ≡ 0
   pub returns : p .returns .count ≤ 8
+  pub corner : Cornered r
 
 -- the record is the command's effect, if it has one on the record alone
-pub record Settles (p : Pane) (next : ℕ) (c : Command) (q : Pane) : Type 0 where
-  pub is : (g : Geometry) (r : Row) (pixelOf : ℕ → ℕ → ℕ) (store : List ℕ) (q′ : Pane)
+pub record Settles (r : Row) (p : Pane) (next : ℕ) (c : Command) (q : Pane) : Type 0 where
+  pub is : (g : Geometry) (pixelOf : ℕ → ℕ → ℕ) (store : List ℕ) (q′ : Pane)
       → effectOf g r p pixelOf store next c ≡ becomes q′ → q ≡ q′
 
 -- ## The drawing commands, and all

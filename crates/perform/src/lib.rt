@@ -89,6 +89,9 @@ pub fn perform(
             let d = draw(screen, store, f, p, c);
             drew(p, next, d)
         }
-        _ => quiet(settle(p, c, next)),
+        _ => {
+            let row = f.row;
+            quiet(settle(row, p, c, next))
+        }
     }
 }

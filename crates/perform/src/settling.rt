@@ -2,14 +2,16 @@
 ghost use Rattle.perform.specs.Performing.{Settling, Settles};
 use model::Command;
 use model::Pane;
+use model::Row;
 use state_commands::control;
 use state_commands::position;
 use state_commands::settings;
 
-// The record that a command leaves which draws nothing and is free of faults, with the address after it.
-pub fn settle(p: Pane, c: Command, next: u32) -> Pane
-    requires { ⌜ Settling p c ⌝ }
-    ensures { λ q. ⌜ Settles p next c q ⌝ }
+// The record that a command leaves which draws nothing and is free of faults, with the address after it, of a pane
+// with this row.
+pub fn settle(row: Row, p: Pane, c: Command, next: u32) -> Pane
+    requires { ⌜ Settling row p c ⌝ }
+    ensures { λ q. ⌜ Settles row p next c q ⌝ }
 {
     match c {
         Command::Nop => control::nop(p, next),
@@ -23,13 +25,13 @@ pub fn settle(p: Pane, c: Command, next: u32) -> Pane
             xmax,
             ymax,
             bits,
-        } => settings::def_bitmap(p, address, xmax, ymax, bits, next),
+        } => settings::def_bitmap(row, p, address, xmax, ymax, bits, next),
         Command::DefClipRect {
             xmin,
             ymin,
             xmax,
             ymax,
-        } => settings::def_clip_rect(p, xmin, ymin, xmax, ymax, next),
+        } => settings::def_clip_rect(row, p, xmin, ymin, xmax, ymax, next),
         Command::DefColors { fore, back } => settings::def_colors(p, fore, back, next),
         Command::DefLogicalOp { mask, code } => settings::def_logical_op(p, mask, code, next),
         Command::DefTexture {

@@ -31,7 +31,7 @@ use Rattle.model.specs.Steps.{Plan, planOf, attempted, obey, step}
 use Rattle.model.proofs.Decisions.{split, cond-ind, cond-none, cond-true, cond-false}
 use Rattle.refusals.specs.Good.{Good}
 use Rattle.bitmaps.proofs.BitmapLaws.{whole-clip}
-use Rattle.refusals.proofs.GoodLaws.{good-pointer, good-ended, good-faulted, good-position, good-bitmap, good-clip, good-colours, good-operation}
+use Rattle.refusals.proofs.GoodLaws.{good-pointer, good-ended, good-faulted, good-position, good-bitmap, good-colours, good-operation}
 use Rattle.refusals.proofs.GoodLaws.{good-pattern, good-spacing, good-orientation, good-font, good-flags, good-returns, good-fontOf}
 use Rattle.decoder.proofs.DecodeLaws.{decode-addressed}
 
@@ -120,7 +120,7 @@ module _ (g : Geometry) (r : Row) (p : Pane) (good : Good g r p) (pixelOf : ℕ 
   effect-good (command.DefClipRect xmin ymin xmax ymax) h e =
       let a = cond-none (noBitmap (p .bitmap)) faultNoBitmap _ tt e in
       let b = cond-none (clipOutside (p .bitmap) (record { xmin = xmin; ymin = ymin; xmax = xmax; ymax = ymax })) faultClip 0 tt (a .1) in
-      good-pointer (good-clip good _ (b .0)) next
+      good-pointer (good-bitmap good (p .bitmap) _ (good .rule) (b .0)) next
   effect-good (command.DefSpace spacing) h e = good-pointer (good-spacing good spacing) next
   effect-good (command.DefCharOrient orientation) h e =
       good-pointer (good-orientation good (orientation / 256 % 4) (orientation % 4) (omega arith) (omega arith)) next

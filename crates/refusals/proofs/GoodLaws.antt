@@ -20,12 +20,15 @@ use Rattle.model.specs.Words.{addressEnd}
 use Rattle.model.specs.Numbers.{statusRunning, statusFaulted}
 use Rattle.model.specs.Bitmaps.{ruleBroken}
 use Rattle.model.specs.Faults.{clipOutside}
-use Rattle.model.specs.Record.{fresh, withPointer, ended, faulted, withPosition, withBitmap, withClip, withColours, withOperation, withPattern, withSpacing}
+use Rattle.model.specs.Record.{fresh, withPointer, ended, faulted, withPosition, withColours, withOperation, withPattern, withSpacing}
 use Rattle.model.specs.Record.{withOrientation, withFont, withFlags, withReturns}
+use Rattle.model.specs.Scissor.{scissorOf, scissorStale, withBitmapAndClip}
 use Rattle.model.specs.Effects.{fontOf}
 use Rattle.model.specs.Setup.{progressBad, fontBad, paneBad}
 use Rattle.model.specs.Calls.{started}
 use Rattle.model.proofs.Decisions.{split, either-false}
+use Rattle.model.proofs.SetupLaws.{paneBad-says}
+use Rattle.model.proofs.ScissorLaws.{stale-current, current-stale}
 use Rattle.refusals.specs.Good.{GoodProgress, Good}
 
 -- ## Refusal 12's tests
@@ -69,22 +72,16 @@ good-fontOf false a e h = either-none (ne-eqb (a % 2) 1 e) (lt-leb addressEnd a 
 
 module _ (g : Geometry) (r : Row) (p : Pane) where
   pub paneBad-good : paneBad g r p ≡ false → Good g r p
-  unfolding paneBad
   paneBad-good h =
-      let a = either-false (progressBad (p .progress)) _ h in
-      let b = either-false (ruleBroken g r (p .bitmap)) _ (a .1) in
-      let c = either-false (clipOutside (p .bitmap) (p .clip)) _ (b .1) in
-      let d = either-false (fontBad (p .text .font)) _ (c .1) in
-      let e = either-false (ltb 15 (p .pen .op)) _ (d .1) in
-      let f = either-false (ltb 3 (p .text .path)) _ (e .1) in
-      let i = either-false (ltb 3 (p .text .rotation)) (ltb 8 (p .returns .count)) (f .1) in
+      let a = paneBad-says g r p h in
       record {
-        progress = progressBad-good (p .progress) (a .0);
-        rule = b .0;
-        clip = c .0;
-        op = ltb-false 15 (p .pen .op) (e .0);
-        text = record { font = d .0; path = ltb-false 3 (p .text .path) (f .0); rotation = ltb-false 3 (p .text .rotation) (i .0) };
-        returns = ltb-false 8 (p .returns .count) (i .1);
+        progress = progressBad-good (p .progress) (a .progress);
+        rule = a .rule;
+        clip = a .clip;
+        op = ltb-false 15 (p .pen .op) (a .op);
+        text = record { font = a .font; path = ltb-false 3 (p .text .path) (a .path); rotation = ltb-false 3 (p .text .rotation) (a .rotation) };
+        returns = ltb-false 8 (p .returns .count) (a .returns);
+        scissor = stale-current r p (a .scissor);
       }
 
   pub good-paneBad : Good g r p → paneBad g r p ≡ false
@@ -92,7 +89,8 @@ module _ (g : Geometry) (r : Row) (p : Pane) where
   good-paneBad q =
       either-none (good-progressBad (p .progress) (q .progress)) (either-none (q .rule) (either-none (q .clip) (either-none (q .text .font)
       (either-none (le-ltb 15 (p .pen .op) (q .op)) (either-none (le-ltb 3 (p .text .path) (q .text .path))
-      (either-none (le-ltb 3 (p .text .rotation) (q .text .rotation)) (le-ltb 8 (p .returns .count) (q .returns))))))))
+      (either-none (le-ltb 3 (p .text .rotation) (q .text .rotation)) (either-none (le-ltb 8 (p .returns .count) (q .returns))
+      (current-stale r p (q .scissor)))))))))
 
 -- ## A part replaced
 
@@ -105,6 +103,7 @@ module _ {g : Geometry} {r : Row} {p : Pane} (q : Good g r p) where
     op = q .op;
     text = q .text;
     returns = q .returns;
+    scissor = q .scissor;
   }
 
   -- only a running list ends
@@ -117,6 +116,7 @@ module _ {g : Geometry} {r : Row} {p : Pane} (q : Good g r p) where
     op = q .op;
     text = q .text;
     returns = q .returns;
+    scissor = q .scissor;
   }
 
   pub good-faulted : (f : ℕ) → 20 ≤ f → f ≤ 30 → Good g r (faulted p f)
@@ -127,25 +127,28 @@ module _ {g : Geometry} {r : Row} {p : Pane} (q : Good g r p) where
     op = q .op;
     text = q .text;
     returns = q .returns;
+    scissor = q .scissor;
   }
 
   pub good-position : (at : Point) → Good g r (withPosition p at)
-  good-position at = record { progress = q .progress; rule = q .rule; clip = q .clip; op = q .op; text = q .text; returns = q .returns }
+  good-position at =
+      record { progress = q .progress; rule = q .rule; clip = q .clip; op = q .op; text = q .text; returns = q .returns; scissor = q .scissor }
 
-  pub good-bitmap : (b : Bitmap) (c : Clip) → ruleBroken g r b ≡ false → clipOutside b c ≡ false → Good g r (withClip (withBitmap p b) c)
-  good-bitmap b c h o = record { progress = q .progress; rule = h; clip = o; op = q .op; text = q .text; returns = q .returns }
-
-  pub good-clip : (c : Clip) → clipOutside (p .bitmap) c ≡ false → Good g r (withClip p c)
-  good-clip c o = record { progress = q .progress; rule = q .rule; clip = o; op = q .op; text = q .text; returns = q .returns }
+  -- DEF_BITMAP's bitmap and clip, and DEF_CLIP_RECT's clip
+  pub good-bitmap : (b : Bitmap) (c : Clip) → ruleBroken g r b ≡ false → clipOutside b c ≡ false → Good g r (withBitmapAndClip r p b c)
+  good-bitmap b c h o = record { progress = q .progress; rule = h; clip = o; op = q .op; text = q .text; returns = q .returns; scissor = refl }
 
   pub good-colours : (fore back : ℕ) → Good g r (withColours p fore back)
-  good-colours fore back = record { progress = q .progress; rule = q .rule; clip = q .clip; op = q .op; text = q .text; returns = q .returns }
+  good-colours fore back =
+      record { progress = q .progress; rule = q .rule; clip = q .clip; op = q .op; text = q .text; returns = q .returns; scissor = q .scissor }
 
   pub good-operation : (op mask : ℕ) → op ≤ 15 → Good g r (withOperation p op mask)
-  good-operation op mask h = record { progress = q .progress; rule = q .rule; clip = q .clip; op = h; text = q .text; returns = q .returns }
+  good-operation op mask h =
+      record { progress = q .progress; rule = q .rule; clip = q .clip; op = h; text = q .text; returns = q .returns; scissor = q .scissor }
 
   pub good-pattern : (pattern : ℕ) (transparent : Bool) → Good g r (withPattern p pattern transparent)
-  good-pattern pattern transparent = record { progress = q .progress; rule = q .rule; clip = q .clip; op = q .op; text = q .text; returns = q .returns }
+  good-pattern pattern transparent =
+      record { progress = q .progress; rule = q .rule; clip = q .clip; op = q .op; text = q .text; returns = q .returns; scissor = q .scissor }
 
   pub good-spacing : (spacing : ℕ) → Good g r (withSpacing p spacing)
   good-spacing spacing = record {
@@ -155,6 +158,7 @@ module _ {g : Geometry} {r : Row} {p : Pane} (q : Good g r p) where
     op = q .op;
     text = record { font = q .text .font; path = q .text .path; rotation = q .text .rotation };
     returns = q .returns;
+    scissor = q .scissor;
   }
 
   pub good-orientation : (path rotation : ℕ) → path ≤ 3 → rotation ≤ 3 → Good g r (withOrientation p path rotation)
@@ -165,6 +169,7 @@ module _ {g : Geometry} {r : Row} {p : Pane} (q : Good g r p) where
     op = q .op;
     text = record { font = q .text .font; path = h; rotation = k };
     returns = q .returns;
+    scissor = q .scissor;
   }
 
   pub good-font : (f : Font) → fontBad f ≡ false → Good g r (withFont p f)
@@ -175,13 +180,15 @@ module _ {g : Geometry} {r : Row} {p : Pane} (q : Good g r p) where
     op = q .op;
     text = record { font = h; path = q .text .path; rotation = q .text .rotation };
     returns = q .returns;
+    scissor = q .scissor;
   }
 
   pub good-flags : (f : Flags) → Good g r (withFlags p f)
-  good-flags f = record { progress = q .progress; rule = q .rule; clip = q .clip; op = q .op; text = q .text; returns = q .returns }
+  good-flags f =
+      record { progress = q .progress; rule = q .rule; clip = q .clip; op = q .op; text = q .text; returns = q .returns; scissor = q .scissor }
 
   pub good-returns : (k : Returns) → k .count ≤ 8 → Good g r (withReturns p k)
-  good-returns k h = record { progress = q .progress; rule = q .rule; clip = q .clip; op = q .op; text = q .text; returns = h }
+  good-returns k h = record { progress = q .progress; rule = q .rule; clip = q .clip; op = q .op; text = q .text; returns = h; scissor = q .scissor }
 
   pub good-started : (a : ℕ) → Good g r (started p a)
   good-started a = record {
@@ -191,8 +198,9 @@ module _ {g : Geometry} {r : Row} {p : Pane} (q : Good g r p) where
     op = q .op;
     text = q .text;
     returns = omega arith;
+    scissor = q .scissor;
   }
 
 pub good-fresh : (g : Geometry) (r : Row) → Good g r fresh
-unfolding paneBad progressBad ruleBroken clipOutside
+unfolding paneBad progressBad ruleBroken clipOutside scissorOf scissorStale
 good-fresh g r = paneBad-good g r fresh refl

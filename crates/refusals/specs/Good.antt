@@ -10,6 +10,7 @@ use Rattle.model.specs.declared.Pane.{Pane}
 use Rattle.model.specs.Numbers.{statusFaulted}
 use Rattle.model.specs.Bitmaps.{ruleBroken}
 use Rattle.model.specs.Faults.{clipOutside}
+use Rattle.model.specs.Scissor.{Current}
 use Rattle.model.specs.Setup.{fontBad}
 
 pub record GoodProgress (p : Progress) : Type 0 where
@@ -30,3 +31,4 @@ pub record Good (g : Geometry) (r : Row) (p : Pane) : Type 0 where
   pub op : p .pen .op ≤ 15
   pub text : GoodText (p .text)
   pub returns : p .returns .count ≤ 8
+  pub scissor : Current r p

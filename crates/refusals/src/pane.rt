@@ -1,13 +1,18 @@
 // The check of a pane record: refusal 12.
 use bitmaps::clip_outside;
 use bitmaps::rule_broken;
+use bitmaps::scissor_of;
 use model::Font;
 use model::Frame;
 use model::Pane;
 use model::Progress;
+use model::Row;
 use model::STATUS_FAULTED;
+use model::Scissor;
 ghost use mathlib.Core.Path.{_≡_};
+ghost use Rattle.model.specs.Scissor.{sameScissor, scissorStale};
 ghost use Rattle.model.specs.Setup.{progressBad, baseBad, fontBad, paneBad};
+ghost use Rattle.bitmaps.specs.Places.{Cornered};
 
 // "Addresses have 22 bits": each is below this.
 const ADDRESS_END: u32 = 0x400000;
@@ -39,8 +44,28 @@ fn font_bad(f: Font) -> bool
     }
 }
 
+// Whether two scissors are the same.
+fn same_scissor(s: Scissor, t: Scissor) -> bool
+    ensures { λ r. ⌜ r ≡ sameScissor s t ⌝ }
+{
+    (s.left == t.left) & ((s.top == t.top) & ((s.width == t.width) & (s.height == t.height)))
+}
+
+// Whether a record's scissor isn't what would be computed afresh.
+fn scissor_stale(row: Row, p: Pane) -> bool
+    requires { ⌜ Cornered row ⌝ }
+    ensures { λ r. ⌜ r ≡ scissorStale row p ⌝ }
+{
+    let kept = p.scissor;
+    let bitmap = p.bitmap;
+    let clip = p.clip;
+    let afresh = scissor_of(row, bitmap, clip);
+    !same_scissor(kept, afresh)
+}
+
 // Whether a pane record is one that refusal 12 refuses, for a pane seen through this frame.
 pub fn pane_bad(f: Frame, p: Pane) -> bool
+    requires { ⌜ Cornered (f .row) ⌝ }
     ensures { λ r. ⌜ r ≡ paneBad (f .geometry) (f .row) p ⌝ }
 {
     let progress = p.progress;
@@ -50,10 +75,13 @@ pub fn pane_bad(f: Frame, p: Pane) -> bool
     let text = p.text;
     let font = text.font;
     let returns = p.returns;
+    let row = f.row;
     progress_bad(progress)
         | (rule_broken(f, bitmap)
             | (clip_outside(bitmap, clip)
                 | (font_bad(font)
                     | ((pen.op > 15)
-                        | ((text.path > 3) | ((text.rotation > 3) | (returns.count > 8)))))))
+                        | ((text.path > 3)
+                            | ((text.rotation > 3)
+                                | ((returns.count > 8) | scissor_stale(row, p))))))))
 }

@@ -13,11 +13,12 @@ use Rattle.model.specs.Ranges.{listed}
 use Rattle.model.specs.Bitmaps.{Fits}
 use Rattle.model.specs.Coordinates.{index, between}
 use Rattle.model.specs.Pixels.{changes, patternSource}
-use Rattle.model.specs.Dots.{Dot, something, visible, hits, changesOf}
+use Rattle.model.specs.Dots.{Dot, something, lies, visible, hits, changesOf}
 use Rattle.model.specs.declared.Clip.{Clip}
 use Rattle.model.specs.declared.Surface.{Surface}
 use Rattle.model.specs.declared.Pen.{Pen}
 use Rattle.model.proofs.Decisions.{split, both-true, and-false, and-true, cond-true, cond-false}
+use Rattle.model.proofs.DotLaws.{lies-clip}
 use Rattle.coordinates.specs.Offsets.{directed, unbiased}
 use Rattle.coordinates.specs.declared.Edges.{Edges}
 use Rattle.coordinates.proofs.EdgeLaws.{within-true, within-early, within-late, unbiased-on, unbiased-back, between-on, between-back, between-holds}
@@ -37,8 +38,7 @@ use Rattle.strips.proofs.DotLaws.{Cut, left-lt, left-twice}
 use Rattle.strips.proofs.HitLaws.{shown-cong, shown-from, shown-le}
 use Rattle.strips.proofs.SpanLaws.{right-phase, left-phase, span-stretched, span-hits}
 use Rattle.spans.specs.declared.Span.{Span}
-use Rattle.spans.specs.Spans.{spanPlace, spanDot, spanDots, lies, EdgesOf, Met, Strung, Reached, leftmostOf, phaseOf, spanChanged}
-use Rattle.spans.proofs.EdgesLaws.{lies-clip}
+use Rattle.spans.specs.Spans.{spanPlace, spanDot, spanDots, EdgesOf, Met, Strung, Reached, leftmostOf, phaseOf, spanChanged}
 
 -- ## A pattern's 1s
 

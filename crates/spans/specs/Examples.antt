@@ -7,8 +7,9 @@ use lib.Dec.{leb, ltb}
 use Rattle.model.specs.Ranges.{listed}
 use Rattle.model.specs.declared.Clip.{Clip}
 use Rattle.model.specs.declared.Surface.{Surface}
+use Rattle.model.specs.Dots.{lies}
 use Rattle.spans.specs.declared.Span.{Span}
-use Rattle.spans.specs.Spans.{spanPlace, lies}
+use Rattle.spans.specs.Spans.{spanPlace}
 
 abbrev pub smallBitmap : Surface
 smallBitmap = record { base = 0; words = 4; bits = 4; left = 0; top = 0; width = 16; height = 4 }

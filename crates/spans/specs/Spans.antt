@@ -7,9 +7,9 @@ use Prim.Native.Nat.{ℕ, _+_, _-_, _%_, _^_, _≤_, _<_}
 use lib.Dec.{leb, ltb}
 use lib.IntN.{_+ℤ_}
 use Rattle.model.specs.Ranges.{listed}
-use Rattle.model.specs.Coordinates.{Place, at, between}
+use Rattle.model.specs.Coordinates.{Place, at}
 use Rattle.model.specs.Pixels.{changes, patternSource}
-use Rattle.model.specs.Dots.{Dot, dot, below, changesOf}
+use Rattle.model.specs.Dots.{Dot, dot, lies, changesOf}
 use Rattle.model.specs.declared.Clip.{Clip}
 use Rattle.model.specs.declared.Pen.{Pen}
 use Rattle.model.specs.declared.Surface.{Surface}
@@ -44,13 +44,6 @@ pub record Bounded (s : Span) : Type 0 where
   pub y : s .y < 262144
   pub count : s .count ≤ longestSpan
   pub index : s .index < indexEnd
-
--- a place that "lies in bitmap and clip" (01, "Pixels")
-abbrev pub lies : Surface → Clip → Place → Bool
-lies u c p =
-    below (u .width) (p .x)
-    && (below (u .height) (p .y)
-    && (between (c .xmin) (c .xmax) (p .x) && between (c .ymin) (c .ymax) (p .y)))
 
 -- "Show that pixel i of a run lies in bitmap and clip exactly when i is from the first edge to below the
 -- second, equal edges meaning none" (02, A.3)

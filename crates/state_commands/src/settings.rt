@@ -1,38 +1,62 @@
-// What later commands draw with: bitmap and clip, pen, text, pick mode.
+// What later commands draw with: bitmap, clip and scissor, pen, text, pick mode.
 ghost use mathlib.Core.Path.{_≡_};
 ghost use mathlib.Core.Bool.{true, false};
 ghost use Prim.Native.Nat.{_/_, _%_};
 ghost use Rattle.model.specs.Bitmaps.{bitmapOf};
-ghost use Rattle.model.specs.Record.{withPointer, withBitmap, withClip, withColours, withOperation, withPattern};
+ghost use Rattle.model.specs.Record.{withPointer, withColours, withOperation, withPattern};
 ghost use Rattle.model.specs.Record.{withSpacing, withOrientation, withFont, withPicking};
+ghost use Rattle.model.specs.Scissor.{withBitmapAndClip};
 ghost use Rattle.model.specs.Effects.{fontOf, wholeClip};
+ghost use Rattle.bitmaps.specs.Places.{Cornered};
 use model::Clip;
 use model::Font;
 use model::Pane;
+use model::Row;
 use model::Text;
 
-// DEF_BITMAP: the clip becomes the whole bitmap.
-pub fn def_bitmap(p: Pane, address: u32, xmax: u16, ymax: u16, bits: u16, next: u32) -> Pane
+// DEF_BITMAP: the clip becomes the whole bitmap, and the scissor what of it can be drawn on the screen.
+pub fn def_bitmap(
+    row: Row,
+    p: Pane,
+    address: u32,
+    xmax: u16,
+    ymax: u16,
+    bits: u16,
+    next: u32,
+) -> Pane
+    requires { ⌜ Cornered row ⌝ }
     ensures { λ r. ⌜ r
-        ≡ withPointer (withClip (withBitmap p (bitmapOf address xmax ymax bits)) (wholeClip xmax ymax)) next ⌝ }
+        ≡ withPointer (withBitmapAndClip row p (bitmapOf address xmax ymax bits) (wholeClip xmax ymax)) next ⌝ }
 {
     let bitmap = bitmaps::bitmap_of(address, xmax, ymax, bits);
-    let clip = Clip {
+    let whole = Clip {
         xmin: 0,
         ymin: 0,
         xmax,
         ymax,
     };
+    let scissor = bitmaps::scissor_of(row, bitmap, whole);
     let mut q = Pane { bitmap, ..p };
-    q.clip = clip;
+    q.clip = whole;
+    q.scissor = scissor;
     q.progress.pointer = next;
     q
 }
 
-// DEF_CLIP_RECT.
-pub fn def_clip_rect(p: Pane, xmin: u16, ymin: u16, xmax: u16, ymax: u16, next: u32) -> Pane
+// DEF_CLIP_RECT: the scissor goes with the clip.
+pub fn def_clip_rect(
+    row: Row,
+    p: Pane,
+    xmin: u16,
+    ymin: u16,
+    xmax: u16,
+    ymax: u16,
+    next: u32,
+) -> Pane
+    requires { ⌜ Cornered row ⌝ }
     ensures { λ r. ⌜ r
-        ≡ withPointer (withClip p (record { xmin = xmin; ymin = ymin; xmax = xmax; ymax = ymax })) next ⌝ }
+        ≡ withPointer (withBitmapAndClip row p (p .bitmap)
+        (record { xmin = xmin; ymin = ymin; xmax = xmax; ymax = ymax })) next ⌝ }
 {
     let clip = Clip {
         xmin,
@@ -40,8 +64,11 @@ pub fn def_clip_rect(p: Pane, xmin: u16, ymin: u16, xmax: u16, ymax: u16, next: 
         xmax,
         ymax,
     };
+    let bitmap = p.bitmap;
+    let scissor = bitmaps::scissor_of(row, bitmap, clip);
     let mut q = p;
     q.clip = clip;
+    q.scissor = scissor;
     q.progress.pointer = next;
     q
 }

@@ -4,6 +4,7 @@
 //! commands of most scripts are done; faults, refusals and malformed lines are
 //! the seasoning.
 
+mod clips;
 mod data;
 mod dice;
 mod judges;

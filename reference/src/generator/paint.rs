@@ -55,7 +55,7 @@ impl Watch<'_> {
                 let (pane, pixels) = (self.pane, self.pixels);
                 self.tell("nothing counted if the run faults", || pixels > 0);
                 self.tell("a drawing that faults counted as one pixel", || {
-                    stands_at_drawing(before, pane)
+                    command_at(before, pane).is_some_and(is_drawing)
                 });
             }
             Outcome::Ended => {}
@@ -141,7 +141,7 @@ impl Watch<'_> {
     }
 }
 
-fn is_drawing(command: Command) -> bool {
+pub fn is_drawing(command: Command) -> bool {
     matches!(
         command,
         Command::Point { .. }
@@ -156,18 +156,22 @@ fn is_drawing(command: Command) -> bool {
     )
 }
 
-/// Whether a drawing command stands at the pointer.
-fn stands_at_drawing(before: &Session, pane: usize) -> bool {
+/// The command that stands at the pointer.
+pub fn command_at(before: &Session, pane: usize) -> Option<Command> {
     let decoded = on_copy(before, pane, |pane| decode(pane.store, pane.record.pointer));
-    matches!(decoded.0, Decoded::Command(command, _) if is_drawing(command))
+    match decoded.0 {
+        Decoded::Command(command, _) => Some(command),
+        _ => None,
+    }
 }
 
-/// The clip becomes the whole bitmap.
-fn unclip(record: &mut PaneRecord) {
+/// The clip becomes the whole bitmap. On a copy the scissor may be left: nothing
+/// is drawn by it.
+pub fn unclip(record: &mut PaneRecord) {
     record.clip = Clip::whole(&record.bitmap);
 }
 
-fn record_of(session: &Session, pane: usize) -> PaneRecord {
+pub fn record_of(session: &Session, pane: usize) -> PaneRecord {
     let console = session.console.as_ref();
     console.map_or(PaneRecord::fresh(), |console| console.panes[pane].clone())
 }
@@ -194,7 +198,7 @@ fn step_if(
 }
 
 /// How many pixels the command then draws.
-fn pixels_if(before: &Session, pane: usize, change: impl FnOnce(&mut PaneRecord)) -> u64 {
+pub fn pixels_if(before: &Session, pane: usize, change: impl FnOnce(&mut PaneRecord)) -> u64 {
     match step_if(before, pane, change).0 {
         Outcome::Done { pixels, .. } => pixels,
         _ => 0,

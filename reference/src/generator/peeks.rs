@@ -31,6 +31,7 @@ pub fn clear_lines(dice: &mut Dice, plan: &mut Plan) -> Vec<String> {
     if !dice.chance(15) {
         return Vec::new();
     }
+    plan.goes_on = false;
     // Where the lists that follow do not know of it, CHAR may find no font.
     if dice.chance(60) {
         plan.forget();

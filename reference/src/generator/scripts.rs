@@ -157,6 +157,18 @@ fn run_lines(dice: &mut Dice, number: u32, list: &List, ending: Ending) -> Vec<S
     lines
 }
 
+/// A short list that is put and run after a fault of DEF_BITMAP or
+/// DEF_CLIP_RECT: it draws with what the fault has left of bitmap and clip.
+fn rest_lines(dice: &mut Dice, plan: &mut Plan) -> Vec<String> {
+    let (number, list) = (plan.number, plan.write_rest(dice));
+    vec![
+        put_words(number, list.start, &list.words),
+        format!("g,{number},{:x}", list.start),
+        format!("r,{number},99"),
+        format!("l,{number}"),
+    ]
+}
+
 /// The bytes that lines take.
 fn size(lines: &[String]) -> usize {
     lines.iter().map(|line| line.len() + 1).sum()
@@ -195,7 +207,7 @@ fn pane_groups(
             &mut room,
         );
     }
-    for (percent, fault) in [(22, 23), (22, 28)] {
+    for (percent, fault) in [(22, 23), (22, 28), (22, 22), (18, 24)] {
         if dice.chance(percent) {
             let list = plan.write_early_fault(dice, fault);
             let mut lines = vec![put_words(number, list.start, &list.words)];
@@ -204,6 +216,9 @@ fn pane_groups(
             lines.push(format!("l,{number}"));
             if language == Language::Calls && dice.chance(50) {
                 lines.push(format!("j,{number},{:x}", list.start));
+            }
+            if matches!(fault, 22 | 24) {
+                lines.extend(rest_lines(dice, plan));
             }
             take(&mut groups, lines, &mut room);
         }
@@ -226,6 +241,8 @@ fn pane_groups(
             Language::Panes => Judging::default(),
             Language::Calls => Judging::choose(dice, plan),
         };
+        // To the judge a list without a bitmap of its own is fault 23.
+        plan.goes_on &= !judging.judged;
         let most = ((room - 60) / 4).min(dice.between(50, 190) as usize);
         let ending = match dice.weighted(&[42, 36, 8, 4, 10]) {
             0 => Ending::End,
@@ -236,6 +253,7 @@ fn pane_groups(
         };
         let list = plan.write_list(dice, most, ending);
         plan.plain = false;
+        plan.goes_on = dice.chance(12);
         let mut lines = vec![put_words(number, list.start, &list.words)];
         lines.extend(judging.lines(number, list.start));
         let mut running = run_lines(dice, number, &list, ending);
@@ -243,6 +261,10 @@ fn pane_groups(
             judge_between(dice, number, list.start, &mut running);
         }
         lines.extend(running);
+        let left = room.saturating_sub(size(&lines));
+        if matches!(ending, Ending::Fault(22 | 24)) && left > 400 && plan.words_left() > 80 {
+            lines.extend(rest_lines(dice, plan));
+        }
         if language == Language::Calls {
             lines.extend(judge_lines(dice, plan, &list));
             lines.extend(peek_lines(dice, plan, list.start));

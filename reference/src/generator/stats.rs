@@ -1,7 +1,8 @@
 //! What random scripts do: how often each command is done, each fault and each
-//! refusal comes, what POLYLINEs are like, and which wrong rules for the pixels
-//! of a run they tell from the right one.
+//! refusal comes, what POLYLINEs are like, by which clips the pane is drawn on,
+//! and which wrong rules for the pixels of a run they tell from the right one.
 
+use super::clips::Clips;
 use super::paint::{Paint, Watch};
 use super::script;
 use crate::bitmaps::{Bitmap, PANE_ADDRESS};
@@ -25,6 +26,8 @@ pub struct Stats {
     pub commands: BTreeMap<String, (u64, u64)>,
     /// POLYLINEs that changed a pixel or the pick flag, by what was special.
     pub polylines: BTreeMap<&'static str, u64>,
+    /// Scripts with a drawing on the pane, by what its clip was.
+    pub clips: BTreeMap<&'static str, u64>,
     /// Scripts in which some run would report other pixels by a wrong rule.
     pub wrong_pixels: BTreeMap<&'static str, u64>,
     pub faults: BTreeMap<u32, u64>,
@@ -71,9 +74,10 @@ impl Stats {
         let mut drawn = vec![false; LARGEST_STORES as usize];
         let mut before: Vec<&[u8]> = Vec::new();
         let mut paint = Paint::default();
+        let mut clips = Clips::default();
         for line in lines_of(text) {
             self.lines += 1;
-            done += self.watch_run(&session, line, &mut paint);
+            done += self.watch_run(&session, line, &mut paint, &mut clips);
             let stores = session.stores.clone();
             let Some(reply) = session.line(line) else {
                 self.malformed += 1;
@@ -88,6 +92,7 @@ impl Stats {
             *self.refusals.entry((letter, number)).or_default() += 1;
             if let Some(pane) = started(&reply, line) {
                 paint.since_start[pane] = 0;
+                clips.start(pane);
             }
             if letter == 'x' && number == 0 {
                 self.pixels += 1;
@@ -116,6 +121,9 @@ impl Stats {
                 self.trapped += u64::from(fields[8] == "1");
             }
         }
+        for what in clips.met {
+            *self.clips.entry(what).or_default() += 1;
+        }
         for rule in paint.told {
             *self.wrong_pixels.entry(rule).or_default() += 1;
         }
@@ -128,7 +136,13 @@ impl Stats {
     }
 
     /// If the line is a run, does it on a copy and counts each command.
-    fn watch_run(&mut self, session: &Session, line: &[u8], paint: &mut Paint) -> u64 {
+    fn watch_run(
+        &mut self,
+        session: &Session,
+        line: &[u8],
+        paint: &mut Paint,
+        clips: &mut Clips,
+    ) -> u64 {
         let fields: Vec<&[u8]> = line.split(|byte| *byte == b',').collect();
         let [b"r", pane, budget] = fields[..] else {
             return 0;
@@ -166,6 +180,7 @@ impl Stats {
                 _ => Vec::new(),
             };
             watch.command(&before, outcome);
+            clips.command(&before, pane as usize, outcome);
             match outcome {
                 Outcome::Done { command, .. } => {
                     let changed =
@@ -243,6 +258,10 @@ impl Stats {
         text.push("POLYLINEs that changed a pixel or set the pick flag".to_string());
         for (name, count) in &self.polylines {
             text.push(format!("  {name}: {count}"));
+        }
+        text.push("drawing on the pane: scripts that have it".to_string());
+        for (what, count) in &self.clips {
+            text.push(format!("  {what}: {count}"));
         }
         text.push("wrong rule for a run's pixels: scripts that tell it".to_string());
         for (rule, count) in &self.wrong_pixels {

@@ -63,6 +63,7 @@ impl Plan {
                 list.add(dice, opcode, &[lower, upper]);
             }
             22 if dice.chance(70) => {
+                self.maybe_clip(dice, list);
                 let spot = self.broken_spot(dice);
                 let [lower, upper] = split(dice, spot.0);
                 list.add(
@@ -111,7 +112,8 @@ impl Plan {
                 );
             }
             24 => {
-                let mut clip = [0, 0, width - 1, height - 1];
+                self.maybe_clip(dice, list);
+                let mut clip = self.clip(dice);
                 let corner = dice.between(0, 3) as usize;
                 let size = [width, height][corner % 2];
                 clip[corner] = dice.pick(&[size, size + 1, -1, 32767, -32768]);
@@ -140,6 +142,14 @@ impl Plan {
             }
             // 23 and 28 need a fresh record; here a drawing command.
             _ => self.draw(dice, list),
+        }
+    }
+
+    /// Half the time a clip, which the fault that follows must leave as it is.
+    pub fn maybe_clip(&mut self, dice: &mut Dice, list: &mut List) {
+        if dice.chance(50) {
+            let clip = self.clip(dice);
+            list.add(dice, opcodes::DEF_CLIP_RECT, &clip);
         }
     }
 

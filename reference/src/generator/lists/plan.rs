@@ -24,6 +24,9 @@ pub struct Plan {
     pub chain: Option<u32>,
     /// The active bitmap; none is the pane.
     pub active: Option<Spot>,
+    /// Whether the next list goes on with the bitmap and the clip that the one
+    /// before it left, and defines none of its own.
+    pub goes_on: bool,
     pub byte_mode: Option<bool>,
     pub picking: bool,
     /// Whether the pane was filled with bytes of the store.
@@ -104,6 +107,7 @@ impl Plan {
             routines: Vec::new(),
             chain: None,
             active: None,
+            goes_on: false,
             byte_mode: None,
             picking: false,
             filled: false,
@@ -111,9 +115,10 @@ impl Plan {
         }
     }
 
-    /// The record is fresh again: no font, and pick mode off. Every list begins
-    /// with a bitmap of its own.
+    /// The record is fresh again: no font, and pick mode off. The next list
+    /// begins with a bitmap of its own.
     pub fn forget(&mut self) {
+        self.goes_on = false;
         self.byte_mode = None;
         self.picking = false;
     }
@@ -206,14 +211,30 @@ impl Plan {
         list
     }
 
-    /// A short list for a fresh record: a drawing command without bitmap (23),
-    /// or a CHAR without font (28).
+    /// A short list that draws with the bitmap and the clip that there are.
+    pub fn write_rest(&mut self, dice: &mut Dice) -> List {
+        let mut list = List::new(self.free, self.words_left());
+        self.goes_on = true;
+        self.begin(dice, &mut list);
+        for _ in 0..dice.between(2, 3) {
+            self.draw(dice, &mut list);
+        }
+        list.end(dice);
+        self.free = list.here();
+        list
+    }
+
+    /// A short list for a fresh record: a drawing command without bitmap (23), a
+    /// CHAR without font (28), or a bad bitmap (22) or clip (24) after the pane.
     pub fn write_early_fault(&mut self, dice: &mut Dice, number: u32) -> List {
         let mut list = List::new(self.free, self.words_left());
         if dice.chance(50) {
             self.settle(dice, &mut list);
         }
-        if number == 28 {
+        if number == 22 || number == 24 {
+            self.define_pane(dice, &mut list);
+            self.fault(dice, &mut list, number);
+        } else if number == 28 {
             self.define_pane(dice, &mut list);
             let byte_mode = dice.chance(50);
             self.character(dice, &mut list, Some(byte_mode));
@@ -276,19 +297,23 @@ impl Plan {
         list
     }
 
-    /// How a list begins: the bitmap, and colours that can be seen.
+    /// How a list begins: the bitmap, unless it goes on with the one there is,
+    /// and colours that can be seen.
     pub fn begin(&mut self, dice: &mut Dice, list: &mut List) {
         if self.picking && dice.chance(80) {
             list.add(dice, opcodes::EXIT_PICK, &[]);
             self.picking = false;
         }
-        if self.plain || dice.chance(75) {
+        if std::mem::take(&mut self.goes_on) {
+            // Nothing to define.
+        } else if self.plain || dice.chance(75) {
             self.define_pane(dice, list);
         } else {
             self.define_spot(dice, list);
         }
         if self.active.is_none() && !self.filled && dice.chance(70) {
-            self.fill(dice, list);
+            // So that there is something to combine with.
+            self.filled = self.copy_over_pane(dice, list);
         }
         if dice.chance(60) {
             self.colours(dice, list);
@@ -301,13 +326,12 @@ impl Plan {
         }
     }
 
-    /// Copies bytes of the store to the whole pane, so that there is something
-    /// to combine with.
-    pub fn fill(&mut self, dice: &mut Dice, list: &mut List) {
+    /// Copies bytes of the store to the whole pane, if the store has so many.
+    pub fn copy_over_pane(&mut self, dice: &mut Dice, list: &mut List) -> bool {
         let row_bytes = (self.width * i64::from(self.depth) + 15) / 16 * 2;
         let spare = i64::from(self.store_length) - row_bytes * self.height;
         if spare < 0 {
-            return;
+            return false;
         }
         let start = i64::from(self.data.start).min(spare / 2 * 2);
         let (xmax, ymax) = (self.width - 1, self.height - 1);
@@ -317,7 +341,7 @@ impl Plan {
             opcodes::BIT_BLT_M,
             &[start, 0, xmax, ymax, 0, 0, xmax, ymax],
         );
-        self.filled = true;
+        true
     }
 
     /// One command, or a few that belong together.

@@ -116,8 +116,8 @@ impl Plan {
     /// A setting that lasts: colours, operation, texture, clip, spacing,
     /// orientation, font.
     pub fn settle(&mut self, dice: &mut Dice, list: &mut List) {
-        let (width, height, bits) = self.size();
-        match dice.weighted(&[24, 20, 18, 14, 7, 10, 8]) {
+        let (_, _, bits) = self.size();
+        match dice.weighted(&[24, 20, 18, 18, 7, 10, 8]) {
             0 => self.colours(dice, list),
             1 => {
                 let mask = match dice.weighted(&[60, 20, 20]) {
@@ -143,22 +143,22 @@ impl Plan {
                 );
             }
             2 => self.texture(dice, list),
+            // Before any DEF_BITMAP this is fault 23.
+            3 if dice.chance(18) => {
+                let clip = self.empty_clip(dice);
+                list.add(dice, opcodes::DEF_CLIP_RECT, &clip);
+                if self.active.is_none() && dice.chance(50) {
+                    self.copy_over_pane(dice, list);
+                } else {
+                    self.draw(dice, list);
+                }
+                if dice.chance(60) {
+                    let clip = self.clip(dice);
+                    list.add(dice, opcodes::DEF_CLIP_RECT, &clip);
+                }
+            }
             3 => {
-                // Before any DEF_BITMAP this is fault 23.
-                let (one, two) = (dice.between(0, width - 1), dice.between(0, width - 1));
-                let (three, four) = (dice.between(0, height - 1), dice.between(0, height - 1));
-                let clip = match dice.weighted(&[25, 43, 22, 5, 5]) {
-                    0 => [0, 0, width - 1, height - 1],
-                    1 => [
-                        one / 2,
-                        three / 2,
-                        width - 1 - two / 3,
-                        height - 1 - four / 3,
-                    ],
-                    2 => [one.min(two), three.min(four), one.max(two), three.max(four)],
-                    3 => [one.max(two), 0, one.min(two), height - 1],
-                    _ => [0, three.max(four), width - 1, three.min(four)],
-                };
+                let clip = self.clip(dice);
                 list.add(dice, opcodes::DEF_CLIP_RECT, &clip);
             }
             4 => {
@@ -180,6 +180,44 @@ impl Plan {
             }
             _ => self.font(dice, list),
         }
+    }
+
+    /// The four words of a clip with a pixel in it.
+    pub fn clip(&mut self, dice: &mut Dice) -> [i64; 4] {
+        let (width, height, _) = self.size();
+        let (one, two) = (dice.between(0, width - 1), dice.between(0, width - 1));
+        let (three, four) = (dice.between(0, height - 1), dice.between(0, height - 1));
+        match dice.weighted(&[24, 45, 23, 4, 4]) {
+            0 => [0, 0, width - 1, height - 1],
+            1 => [
+                one / 2,
+                three / 2,
+                width - 1 - two / 3,
+                height - 1 - four / 3,
+            ],
+            2 => [one.min(two), three.min(four), one.max(two), three.max(four)],
+            // A column, a row.
+            3 => [one, three / 2, one, height - 1 - four / 3],
+            _ => [one / 2, three, width - 1 - two / 3, three],
+        }
+    }
+
+    /// The four words of a clip with a maximum below its minimum, often just
+    /// below it; only a bitmap of one pixel has none.
+    pub fn empty_clip(&mut self, dice: &mut Dice) -> [i64; 4] {
+        let (width, height, _) = self.size();
+        let mut clip = self.clip(dice);
+        // Columns or rows, whichever there are two of.
+        let axis = usize::from(width < 2 || height > 1 && dice.chance(50));
+        let size = [width, height][axis];
+        let minimum = dice.between(1, (size - 1).max(1)).min(size - 1);
+        let maximum = if dice.chance(50) {
+            minimum - 1
+        } else {
+            dice.between(0, minimum - 1)
+        };
+        (clip[axis], clip[axis + 2]) = (minimum, maximum.max(0));
+        clip
     }
 
     pub fn font(&mut self, dice: &mut Dice, list: &mut List) {

@@ -6,10 +6,11 @@ use borrow.Author.Needs.{needs}
 use types.Run.{hit}
 use Rattle.model.specs.Faults.{sourceBitmap}
 use Rattle.bitmaps.specs.Areas.{areaOf}
+use Rattle.bitmaps.proofs.AreaLaws.{placed-sizes}
 use Rattle.canvas.proofs.LoopLaws.{drew-lengths}
 use Rattle.perform.proofs.KindLaws.{drawingTags}
-use Rattle.perform.proofs.ReadyLaws.{sound-sizes, sound-active}
-use Rattle.perform.proofs.DrawingLaws.{drawing-active, drawing-ready, polyline-reach, scan-lines-reach, bit-blt-inside}
+use Rattle.perform.proofs.ReadyLaws.{sound-aimable, sound-active}
+use Rattle.perform.proofs.DrawingLaws.{drawing-ready, polyline-reach, scan-lines-reach, bit-blt-inside}
 use Rattle.perform.proofs.DrawingLaws.{bit-blt-m-copyable, char-writable, point-carries, line-carries, rect-carries, circle-carries}
 use Rattle.perform.proofs.DrawingLaws.{polyline-carries, scan-lines-carries, bit-blt-carries, bit-blt-m-carries}
 use Rattle.perform.proofs.DrawingLaws.{char-carries, carries-not}
@@ -40,7 +41,7 @@ pub draw-spec : {M : Type 1} → statement M
 draw-spec =
     tie.close
     (tie.spec
-    (λ c κs. sound-sizes (c .before .before .pre .sound))
+    (λ c κs. sound-aimable (c .before .before .pre .sound))
     -- POINT
     (λ c. search needs)
     (λ c κs. drawing-ready (entry (c .before .before .before .before .before) .pre) (aim (c .before .before .before .before .before) .target-of .ensures)
@@ -90,7 +91,7 @@ draw-spec =
     -- BIT_BLT_M
     (λ c. search needs)
     (λ c κs. sound-active (entry (c .before .before .before) .pre .sound))
-    (λ c κs. let s = sound-sizes (entry (c .before .before .before .before) .pre .sound) in (s .0, s .1))
+    (λ c κs. placed-sizes (entry (c .before .before .before .before) .pre .sound .placed))
     (λ c κs.
     let at = read (c .before .before) in
     let told = c .before .before .before .before .before .c8 .given .1 in (
@@ -136,8 +137,7 @@ draw-spec =
     (λ c. drew-lengths (c .before .before .before .before .bit-blt .ensures) .store)
     (λ c. bit-blt-carries _ _ _ _ _ _ _ _ (aim (c .before .before .before .before .before .before .before .before .before .before) .target-of .ensures)
     (c .before .before .before .before .before .before .before .before .c7 .given .1)
-    (drawing-active (entry (c .before .before .before .before .before .before .before .before .before .before) .pre)
-    (c .before .before .before .before .before .before .before .before .c7 .given .1) (hit drawingTags 19 tt))
+    (entry (c .before .before .before .before .before .before .before .before .before .before) .pre)
     (c .before .before .before .before .bit-blt .ensures))
     -- BIT_BLT_M
     (λ c. drew-lengths (c .before .before .before .before .bit-blt-m .ensures) .screen)

@@ -32,10 +32,10 @@ settle-spec =
     (λ c κs. search needs)
     -- DEF_BITMAP
     (λ c. search needs)
-    (λ c κs. search needs)
+    (λ c κs. c .before .before .before .pre .corner)
     -- DEF_CLIP_RECT
     (λ c. search needs)
-    (λ c κs. search needs)
+    (λ c κs. c .before .before .before .pre .corner)
     -- DEF_COLORS
     (λ c. search needs)
     (λ c κs. search needs)
@@ -61,36 +61,36 @@ settle-spec =
     (λ c. search needs)
     (λ c κs. search needs)
     -- NOP
-    (λ c. settles _ _ _ _ (c .before .enum-told .given .1) (λ g r pixelOf store. refl) (c .nop .ensures))
+    (λ c. settles _ _ _ _ _ (c .before .enum-told .given .1) (λ g pixelOf store. refl) (c .nop .ensures))
     -- LINK
-    (λ c. settles _ _ _ _ (c .before .before .c .given .1) (λ g r pixelOf store. refl) (c .link .ensures))
+    (λ c. settles _ _ _ _ _ (c .before .before .c .given .1) (λ g pixelOf store. refl) (c .link .ensures))
     -- CALL
-    (λ c. settles _ _ _ _ (c .before .before .c2 .given .1) (λ g r pixelOf store. refl) (c .call .ensures))
+    (λ c. settles _ _ _ _ _ (c .before .before .c2 .given .1) (λ g pixelOf store. refl) (c .call .ensures))
     -- RETURN
-    (λ c. settles _ _ _ _ (c .before .enum-told2 .given .1) (λ g r pixelOf store. refl) (c .return-from-call .ensures))
+    (λ c. settles _ _ _ _ _ (c .before .enum-told2 .given .1) (λ g pixelOf store. refl) (c .return-from-call .ensures))
     -- ABS_MOV
-    (λ c. settles _ _ _ _ (c .before .before .c3 .given .1) (λ g r pixelOf store. refl) (c .abs-mov .ensures))
+    (λ c. settles _ _ _ _ _ (c .before .before .c3 .given .1) (λ g pixelOf store. refl) (c .abs-mov .ensures))
     -- REL_MOV
-    (λ c. settles _ _ _ _ (c .before .before .c4 .given .1) (λ g r pixelOf store. refl) (c .rel-mov .ensures))
+    (λ c. settles _ _ _ _ _ (c .before .before .c4 .given .1) (λ g pixelOf store. refl) (c .rel-mov .ensures))
     -- DEF_BITMAP
-    (λ c. settles _ _ _ _ (c .before .before .c5 .given .1) (λ g r pixelOf store. refl) (c .def-bitmap .ensures))
+    (λ c. settles _ _ _ _ _ (c .before .before .c5 .given .1) (λ g pixelOf store. refl) (c .def-bitmap .ensures))
     -- DEF_CLIP_RECT
-    (λ c. settles _ _ _ _ (c .before .before .c6 .given .1) (λ g r pixelOf store. refl) (c .def-clip-rect .ensures))
+    (λ c. settles _ _ _ _ _ (c .before .before .c6 .given .1) (λ g pixelOf store. refl) (c .def-clip-rect .ensures))
     -- DEF_COLORS
-    (λ c. settles _ _ _ _ (c .before .before .c7 .given .1) (λ g r pixelOf store. refl) (c .def-colors .ensures))
+    (λ c. settles _ _ _ _ _ (c .before .before .c7 .given .1) (λ g pixelOf store. refl) (c .def-colors .ensures))
     -- DEF_LOGICAL_OP
-    (λ c. settles _ _ _ _ (c .before .before .c8 .given .1) (λ g r pixelOf store. refl) (c .def-logical-op .ensures))
+    (λ c. settles _ _ _ _ _ (c .before .before .c8 .given .1) (λ g pixelOf store. refl) (c .def-logical-op .ensures))
     -- DEF_TEXTURE
-    (λ c. settles _ _ _ _ (c .before .before .c9 .given .1) (λ g r pixelOf store. refl) (c .def-texture .ensures))
+    (λ c. settles _ _ _ _ _ (c .before .before .c9 .given .1) (λ g pixelOf store. refl) (c .def-texture .ensures))
     -- DEF_SPACE
-    (λ c. settles _ _ _ _ (c .before .before .c10 .given .1) (λ g r pixelOf store. refl) (c .def-space .ensures))
+    (λ c. settles _ _ _ _ _ (c .before .before .c10 .given .1) (λ g pixelOf store. refl) (c .def-space .ensures))
     -- DEF_CHAR_ORIENT
-    (λ c. settles _ _ _ _ (c .before .before .c11 .given .1) (λ g r pixelOf store. refl) (c .def-char-orient .ensures))
+    (λ c. settles _ _ _ _ _ (c .before .before .c11 .given .1) (λ g pixelOf store. refl) (c .def-char-orient .ensures))
     -- DEF_CHAR_SET
-    (λ c. settles _ _ _ _ (c .before .before .c12 .given .1) (λ g r pixelOf store. refl) (c .def-char-set .ensures))
+    (λ c. settles _ _ _ _ _ (c .before .before .c12 .given .1) (λ g pixelOf store. refl) (c .def-char-set .ensures))
     -- ENTER_PICK
-    (λ c. settles _ _ _ _ (c .before .enum-told3 .given .1) (λ g r pixelOf store. refl) (c .enter-pick .ensures))
+    (λ c. settles _ _ _ _ _ (c .before .enum-told3 .given .1) (λ g pixelOf store. refl) (c .enter-pick .ensures))
     -- EXIT_PICK
-    (λ c. settles _ _ _ _ (c .before .enum-told4 .given .1) (λ g r pixelOf store. refl) (c .exit-pick .ensures))
+    (λ c. settles _ _ _ _ _ (c .before .enum-told4 .given .1) (λ g pixelOf store. refl) (c .exit-pick .ensures))
     -- a drawing command
-    (λ c. settles-not _ _ _ _ (c .match .keys17)))
+    (λ c. settles-not _ _ _ _ _ (c .match .keys17)))

@@ -1,6 +1,7 @@
 -- Set-up's refusals first; once none applies, there are at most 8 rows, so that a pane below their number has a row and a record.
 use mathlib.Core.Path.{sym, ap, _∙_}
 use mathlib.Core.Bool.{Bool, cond}
+use native.Mathlib.Omega.{arith}
 use borrow.Author.Tests.{le-leb, lt-leb, eq-eqb, ne-eqb}
 use Rattle.model.specs.Numbers.{refuseRecord}
 use Rattle.model.specs.Calls.{callChecks}
@@ -26,6 +27,14 @@ element-copy-out-p c =
     let v = checks-say _ _ _ _ _ (sym (c .before .before .before .setup-refusal .ensures) ∙ c .before .before .if1 .left) in let n =
     v .geometry .count in search needs
 
+-- a rectangle on the screen has its corner there
+pane-bad-requires : tie.Need-pane-bad-requires
+pane-bad-requires c κs =
+    let d = c .before .before .before in
+    let v = checks-say _ _ _ _ _ (sym (d .before .before .setup-refusal .ensures) ∙ d .before .if1 .left) in
+    let q = v .rectangle _ (d .if2 .left) in
+    record { left = omega (arith, q .right, v .geometry .width); top = omega (arith, q .bottom, v .geometry .height) }
+
 returns-3 : tie.Need-returns-3
 unfolding callChecks
 returns-3 c =
@@ -44,6 +53,6 @@ call-refusal-spec =
     element-copy-out-row
     (λ c. search needs)
     element-copy-out-p
-    (λ c κs. search needs)
+    pane-bad-requires
     (λ c κs. search needs)
     returns-3)
