@@ -2,7 +2,7 @@
 # Runs the scripts worked out by hand through a program and compares its replies with theirs.
 # usage: tests/check.sh panes|calls PATH-OF-PROGRAM
 # `calls` takes every line of `panes`, so it is also given the scripts of `panes`, but for those with a
-# line k, c or j: to `panes` that is malformed.
+# line k, c, j or t: to `panes` that is malformed.
 language=$1
 program=$2
 tests=$(dirname "$0")
@@ -32,7 +32,7 @@ check() { # SCRIPT
 check_folder() { # FOLDER
     before=$checked
     for script in "$1"/*.in; do
-        if [ "$language" = calls ] && [ "$1" = "$panes_scripts" ] && grep -q '^[kcj]' "$script"; then
+        if [ "$language" = calls ] && [ "$1" = "$panes_scripts" ] && grep -q '^[kcjt]' "$script"; then
             echo "left out: $script"
         elif [ -f "$script" ]; then
             check "$script"

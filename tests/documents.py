@@ -22,7 +22,7 @@ EXAMPLES = Path("examples")
 PANEL = Path("crates/panel/src/main.rt")
 
 # What the documents have now. Less means that a script, a listing or a picture is no longer found.
-LEAST = {"scripts": 44, "listings": 38, "commands": 158, "replies": 341, "pictures": 26, "paths": 50}
+LEAST = {"scripts": 45, "listings": 39, "commands": 170, "replies": 370, "pictures": 26, "paths": 50}
 counts = dict.fromkeys(LEAST, 0)
 wrong = []
 

@@ -4,7 +4,7 @@
 use crate::bitmaps::Bitmap;
 use crate::judge::{self, Verdict};
 use crate::pixels::{Frame, Pane};
-use crate::record::{PaneRecord, RUNNING};
+use crate::record::{PaneRecord, RUNNING, TRAPPED};
 use crate::setup::Console;
 use crate::step::{step, Outcome};
 use crate::table::Row;
@@ -124,7 +124,8 @@ fn check_start(row: &Row, address: u32) -> Result<(), Refusal> {
 /// fault." "While status is 1 and budget is left" one command after another is
 /// done. "A spent budget leaves status 1, even before an end word." And "run is
 /// to report, besides its commands, the number of pixels drawn in it": the sum
-/// of what its commands drew. "The sum is 64 bits wide" (02, A.5).
+/// of what its commands drew. "The sum is 64 bits wide" (02, A.5). "Refusal 4
+/// then covers statuses 0, 2 and 3" (02, A.7).
 pub fn run(
     console: &mut Console,
     screen: &mut [u8],
@@ -133,10 +134,11 @@ pub fn run(
     budget: u32,
 ) -> Result<RunReply, Refusal> {
     let index = enter(console, screen, stores, pane)?;
-    if console.panes[index].status != RUNNING {
+    if !matches!(console.panes[index].status, RUNNING | TRAPPED) {
         return Err(Refusal(4));
     }
     let mut lent = lend(console, screen, stores, index);
+    lent.record.resume();
     let mut commands = 0;
     let mut sum = 0;
     while lent.record.status == RUNNING && commands < budget {
@@ -245,4 +247,23 @@ pub fn judge(
     };
     let store = &stores[store_range(console, index)];
     Ok(judge::judge(&frame, store, address))
+}
+
+/// "Setting the switch is a ninth call on a pane": 1 turns it on, 0 off. "A
+/// switch value other than 0 or 1 is refused with 33, after 12" (02, A.7).
+pub fn switch(
+    console: &mut Console,
+    screen: &[u8],
+    stores: &[u8],
+    pane: u32,
+    value: u32,
+) -> Result<(), Refusal> {
+    let index = enter(console, screen, stores, pane)?;
+    let on = match value {
+        0 => false,
+        1 => true,
+        _ => return Err(Refusal(33)),
+    };
+    console.panes[index].set_switch(on);
+    Ok(())
 }

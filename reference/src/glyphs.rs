@@ -2,7 +2,7 @@
 
 use crate::bitmaps::Bitmap;
 use crate::pixels::Pane;
-use crate::record::Font;
+use crate::record::{Font, TRAPPED};
 use crate::words::word_at;
 use crate::Fault;
 
@@ -145,17 +145,23 @@ pub fn string_glyphs(
 }
 
 impl Pane<'_> {
-    /// CHAR, whose string was checked: its glyphs, one after the other. Answers
-    /// how many pixels were drawn.
+    /// CHAR, whose string was checked: its glyphs, one after the other. "With the
+    /// switch on, a CHAR that met a T is finished, counted, and leaves status 4"
+    /// (02, A.7), whether or not a pixel was drawn. Answers how many were.
     pub fn draw_string(&mut self, transparent: bool, address: u32, count: u16) -> u64 {
         let Some(font) = self.record.font else {
             return 0;
         };
         let glyphs = string_glyphs(self.store, &self.record.bitmap, font, address, count);
-        let glyphs = glyphs.unwrap_or_default().into_iter();
-        glyphs
-            .map(|glyph| self.draw_glyph(&glyph, transparent))
-            .sum()
+        let glyphs = glyphs.unwrap_or_default();
+        let mut drawn = 0;
+        for glyph in &glyphs {
+            drawn += self.draw_glyph(glyph, transparent);
+        }
+        if self.record.trap_switch && glyphs.iter().any(|glyph| glyph.trap) {
+            self.record.status = TRAPPED;
+        }
+        drawn
     }
 
     /// Draws one character at the position and moves on. "Unless S, the

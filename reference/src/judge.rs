@@ -22,7 +22,8 @@ pub enum Verdict {
 }
 
 /// Walks the list at an address of a pane's store, "as from a cleared pane":
-/// the pane's own record has no part in it.
+/// the pane's own record has no part in it. Nor has its trap switch: "the judge's
+/// 'clean' is meant with the switch off" (02, A.7).
 ///
 /// A drawing command is checked and passed over. No pixel and no byte of the
 /// store changes: the only bitmap that the walk lets be defined is the pane,

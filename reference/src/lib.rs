@@ -27,7 +27,7 @@ pub mod step;
 pub mod table;
 pub mod words;
 
-/// Why a call was refused: 1 to 12.
+/// Why a call was refused: 1 to 12, or 33.
 #[derive(Clone, Copy, Debug, PartialEq, Eq)]
 pub struct Refusal(pub u32);
 

@@ -3,11 +3,13 @@
 use crate::bitmaps::{Bitmap, Clip, Scissor};
 use crate::table::Row;
 
-/// "Status: 0 parked, 1 running, 2 ended, 3 faulted."
+/// "Status: 0 parked, 1 running, 2 ended, 3 faulted." And "a CHAR that met a T …
+/// leaves status 4" (02, A.7): trapped.
 pub const PARKED: u32 = 0;
 pub const RUNNING: u32 = 1;
 pub const ENDED: u32 = 2;
 pub const FAULTED: u32 = 3;
+pub const TRAPPED: u32 = 4;
 
 /// The most return addresses that CALL keeps.
 pub const MOST_RETURNS: u32 = 8;
@@ -46,6 +48,8 @@ pub struct PaneRecord {
     pub pick_mode: bool,
     pub pick_flag: bool,
     pub trap_flag: bool,
+    /// Whether a CHAR that meets a T stops the run.
+    pub trap_switch: bool,
     pub return_count: u32,
     pub returns: [u32; MOST_RETURNS as usize],
 }
@@ -56,7 +60,8 @@ impl PaneRecord {
     /// source bit), colour mask FFFF hex, pattern FFFF hex opaque, spacing 0,
     /// path and rotation 0, no font, pick mode off, pick and trap flags 0, no
     /// return addresses." Replace is code 5: "source". The scissor is empty,
-    /// there being no bitmap.
+    /// there being no bitmap. "A pane gets a trap switch, off when fresh" (02,
+    /// A.7).
     pub fn fresh() -> PaneRecord {
         PaneRecord {
             status: PARKED,
@@ -80,6 +85,7 @@ impl PaneRecord {
             pick_mode: false,
             pick_flag: false,
             trap_flag: false,
+            trap_switch: false,
             return_count: 0,
             returns: [0; MOST_RETURNS as usize],
         }
@@ -93,6 +99,24 @@ impl PaneRecord {
         self.fault = 0;
         self.return_count = 0;
         self.returns = [0; MOST_RETURNS as usize];
+    }
+
+    /// "Run on status 4 clears the flag, makes the status 1, with budget 0 too,
+    /// and goes on with the next command", to which the pointer has gone on.
+    pub fn resume(&mut self) {
+        if self.status == TRAPPED {
+            self.trap_flag = false;
+            self.status = RUNNING;
+        }
+    }
+
+    /// Sets the trap switch. "Turning the switch off at status 4 makes the
+    /// status 1 and keeps the flag."
+    pub fn set_switch(&mut self, on: bool) {
+        self.trap_switch = on;
+        if !on && self.status == TRAPPED {
+            self.status = RUNNING;
+        }
     }
 
     /// The position as whole numbers.
@@ -122,12 +146,15 @@ impl PaneRecord {
     /// above 3; over eight return addresses." And "refusal 12 admits fault 30
     /// at status 3" (02, A.1), and "a pane record in which" the scissor "isn't
     /// equal" to what would be computed afresh "falls under refusal 12" (02, A.6).
+    /// And "refusal 12 admits status 4 only with the switch on and the flag set"
+    /// (02, A.7).
     pub fn is_sound(&self, row: &Row, depth: u32) -> bool {
         let fault_sound = if self.status == FAULTED {
             (20..=30).contains(&self.fault)
         } else {
             self.fault == 0
         };
+        let trap_sound = self.status != TRAPPED || self.trap_switch && self.trap_flag;
         let clip_sound = if self.bitmap == Bitmap::None {
             self.clip == Clip::default()
         } else {
@@ -137,8 +164,9 @@ impl PaneRecord {
             None => true,
             Some(font) => font.base % 2 == 0 && font.base <= 0x3F_FFFF,
         };
-        self.status <= 3
+        self.status <= TRAPPED
             && fault_sound
+            && trap_sound
             && self.bitmap.keeps_rule(row, depth)
             && clip_sound
             && self.scissor == Scissor::of(row, &self.bitmap, &self.clip)

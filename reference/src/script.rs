@@ -19,8 +19,8 @@ pub enum Language {
     #[default]
     Panes,
     /// `calls`: the same, and a letter for each call that the papers give none:
-    /// `k,pane,address` for peek, `c,pane` for clear and `j,pane,address` for
-    /// the judge.
+    /// `k,pane,address` for peek, `c,pane` for clear, `j,pane,address` for the
+    /// judge and `t,pane,value` for the trap switch.
     Calls,
 }
 
@@ -132,6 +132,7 @@ impl Session {
             [b"k", pane, address] => self.peek(decimal(pane)?, hex(address)?),
             [b"c", pane] => self.clear(decimal(pane)?),
             [b"j", pane, address] => self.judge(decimal(pane)?, hex(address)?),
+            [b"t", pane, value] => self.switch(decimal(pane)?, decimal(value)?),
             _ => None,
         }
     }
@@ -266,6 +267,12 @@ impl Session {
                 Verdict::Found { number, address } => format!(",{number},{address:x}"),
             }),
         ))
+    }
+
+    fn switch(&mut self, pane: u32, value: u32) -> Option<String> {
+        let console = self.console.as_mut()?;
+        let reply = calls::switch(console, &self.screen, &self.stores, pane, value);
+        Some(reply_line('t', reply.map(|()| String::new())))
     }
 }
 

@@ -63,7 +63,8 @@ fn spoiled_scripts_are_answered() {
 }
 
 /// Random words, most of them with known opcodes, run on a pane in the middle
-/// of a screen. The rest of the screen and of the stores keeps every bit.
+/// of a screen, half of them with the trap switch on. The rest of the screen and
+/// of the stores keeps every bit.
 #[test]
 fn random_words_keep_to_their_pane() {
     let opcodes: Vec<u16> = (0..256)
@@ -92,6 +93,7 @@ fn random_words_keep_to_their_pane() {
             bench.put_words(address, &[word]);
         }
         bench.put_words(0, &pane_bitmap(13, 9, depth as u16));
+        assert_eq!(bench.switch(0, round / 4 % 2), Ok(()));
         let before = bench.clone();
         for start in [0, 12, 100, 102, 200, 300, 400, 500] {
             bench.start(0, start).unwrap();
@@ -239,7 +241,7 @@ fn random_scripts_of_calls_peek_and_clear() {
     }
     assert!(stats.peeks_of_drawn >= 100);
     let panes = Stats::of(Language::Panes, 150);
-    assert!(panes.refusals.keys().all(|key| !"kcj".contains(key.0)));
+    assert!(panes.refusals.keys().all(|key| !"kcjt".contains(key.0)));
 }
 
 /// They judge lists that are clean, up to the last command that is walked, and
@@ -259,14 +261,49 @@ fn random_scripts_of_calls_judge() {
     assert!(stats.verdicts_run >= 500);
 }
 
+/// They turn the trap switch, and what follows would go otherwise by a wrong rule
+/// for it: the first six of these in one of five scripts at least, each in one
+/// of twenty.
+#[test]
+fn random_scripts_of_calls_stop_at_traps() {
+    let stats = Stats::of(Language::Calls, 300);
+    for refusal in [0, 1, 33] {
+        let times = stats.refusals.get(&('t', refusal));
+        assert!(times.is_some_and(|times| *times >= 20), "t,{refusal}");
+    }
+    for (least, what) in [
+        (60, "stopped"),
+        (60, "resumed with budget 0, then looked at"),
+        (60, "resumed with more"),
+        (60, "turned off while stopped"),
+        (60, "started while stopped"),
+        (60, "CHAR without T, the flag set before"),
+        (15, "CHAR of an empty string, the flag set before"),
+        (15, "cleared while stopped"),
+        (15, "judged while stopped"),
+        (15, "looked at while stopped"),
+        (15, "resumed and stopped again"),
+        (15, "started while stopped, then looked at"),
+        (15, "stopped by a T that isn't the last character"),
+        (15, "stopped in pick mode"),
+        (15, "stopped where nothing is drawn"),
+        (15, "turned off while stopped, then looked at"),
+        (15, "turned on while stopped"),
+    ] {
+        let scripts = stats.stops.get(what);
+        assert!(scripts.is_some_and(|scripts| *scripts >= least), "{what}");
+    }
+    assert!(Stats::of(Language::Panes, 150).stops.is_empty());
+}
+
 /// Those of `panes` have lines with the letters of `calls`, which it does not
 /// take.
 #[test]
 fn random_scripts_of_panes_have_letters_of_calls() {
-    let mut found = [0; 3];
+    let mut found = [0; 4];
     for seed in 1..=300 {
         let text = script(Language::Panes, seed);
-        for (times, letter) in found.iter_mut().zip([b"k,", b"c,", b"j,"]) {
+        for (times, letter) in found.iter_mut().zip([b"k,", b"c,", b"j,", b"t,"]) {
             *times += lines_of(&text)
                 .iter()
                 .filter(|line| line.starts_with(letter))

@@ -1,4 +1,4 @@
-//! The refusals 1 to 12: when each is replied, in which order, and that a
+//! The refusals 1 to 12 and 33: when each is replied, in which order, and that a
 //! refused call changes nothing.
 
 mod bench;
@@ -39,6 +39,7 @@ fn refused(change: impl Fn(&mut Bench)) -> u32 {
     assert_eq!(bench.peek(9, 0), Err(Refusal(number)));
     assert_eq!(bench.clear(9), Err(Refusal(number)));
     assert_eq!(bench.judge(9, 1), Err(Refusal(number)));
+    assert_eq!(bench.switch(9, 2), Err(Refusal(number)));
     assert_eq!(bench, before);
     number
 }
@@ -216,6 +217,9 @@ fn refusal_1_no_such_pane() {
         assert_eq!(bench.peek(pane, 0), Err(Refusal(1)));
         assert_eq!(bench.clear(pane), Err(Refusal(1)));
         assert_eq!(bench.judge(pane, 1), Err(Refusal(1)));
+        for value in [0, 1, 2, u32::MAX] {
+            assert_eq!(bench.switch(pane, value), Err(Refusal(1)));
+        }
     }
     assert_eq!(bench, before);
 }
@@ -244,6 +248,9 @@ fn refused_with_12(mut bench: Bench) -> bool {
     assert_eq!(bench.peek(0, 999), Err(no));
     assert_eq!(bench.clear(0), Err(no));
     assert_eq!(bench.judge(0, 1), Err(no));
+    for value in [0, 1, 2, u32::MAX] {
+        assert_eq!(bench.switch(0, value), Err(no));
+    }
     assert_eq!(bench, before);
     // The other pane is not touched by it.
     assert!(bench.look(1).is_ok());
@@ -280,9 +287,42 @@ fn scissor(left: u32, top: u32, width: u32, height: u32) -> Scissor {
     }
 }
 
+/// Pane 0's record is at this status with switch and flag so.
+fn at_status(status: u32, switch: bool, flag: bool) -> impl Fn(&mut PaneRecord) {
+    move |record| {
+        record.status = status;
+        record.fault = if status == 3 { 27 } else { 0 };
+        record.trap_switch = switch;
+        record.trap_flag = flag;
+    }
+}
+
+/// "Refusal 12 admits status 4 only with the switch on and the flag set."
+#[test]
+fn refusal_12_status_4() {
+    for (switch, flag) in [(false, false), (false, true), (true, false), (true, true)] {
+        assert_eq!(unsound(at_status(4, switch, flag)), !(switch && flag));
+        // At any other status both are free; above 4 they help nothing.
+        for status in 0..=3 {
+            assert!(!unsound(at_status(status, switch, flag)));
+        }
+        for status in [5, 8, 36, u32::MAX] {
+            assert!(unsound(at_status(status, switch, flag)));
+        }
+    }
+    // A fault "not 0 elsewhere" than at status 3.
+    for fault in [1, 4, 20, 28, 30, 33, u32::MAX] {
+        assert!(unsound(|record| {
+            at_status(4, true, true)(record);
+            record.fault = fault;
+        }));
+    }
+}
+
 #[test]
 fn refusal_12_status_and_fault() {
     assert!(unsound(|record| record.status = 4));
+    assert!(unsound(|record| record.status = 5));
     assert!(unsound(|record| record.status = u32::MAX));
     for status in 0..3 {
         assert!(!unsound(|record| record.status = status));
@@ -597,6 +637,7 @@ fn refusals_3_and_2_start() {
     record.pointer = 9;
     record.x = -5;
     record.trap_flag = true;
+    record.trap_switch = true;
     record.return_count = 2;
     record.returns = [1, 2, 0, 0, 0, 0, 0, 0];
     let mut expected = record.clone();
@@ -634,14 +675,24 @@ fn refusals_3_and_2_judge() {
 
 #[test]
 fn refusal_4_run() {
-    let mut bench = two();
+    // "Refusal 4 then covers statuses 0, 2 and 3", whatever switch and flag are.
     for status in [0, 2, 3] {
-        bench.record().status = status;
-        bench.record().fault = if status == 3 { 20 } else { 0 };
-        let before = bench.clone();
-        assert_eq!(bench.run(0, 5), Err(Refusal(4)));
-        assert_eq!(bench, before);
+        for (switch, flag) in [(false, false), (false, true), (true, false), (true, true)] {
+            let mut bench = two();
+            at_status(status, switch, flag)(bench.record());
+            let before = bench.clone();
+            for budget in [0, 1, 5, u32::MAX] {
+                assert_eq!(bench.run(0, budget), Err(Refusal(4)));
+            }
+            assert_eq!(bench, before);
+        }
     }
+    for (status, budget) in [(1, 0), (1, 5), (4, 0), (4, 5)] {
+        let mut bench = two();
+        at_status(status, true, true)(bench.record());
+        assert!(bench.run(0, budget).is_ok());
+    }
+    let mut bench = two();
     // A budget of 0 does nothing, even before an end word.
     bench.put_words(0, &[0x0001]);
     bench.start(0, 0).unwrap();
@@ -699,4 +750,25 @@ fn clear_makes_one_record_fresh() {
     expected.console.panes[0] = PaneRecord::fresh();
     assert_eq!(bench.clear(0), Ok(()));
     assert_eq!(bench, expected);
+}
+
+/// "A switch value other than 0 or 1 is refused with 33, after 12."
+#[test]
+fn refusal_33_switch() {
+    for status in 0..=4 {
+        let mut bench = two();
+        at_status(status, true, true)(bench.record());
+        let before = bench.clone();
+        for value in [2, 3, 4, 255, 256, 257, 65536, 0x1_0001, u32::MAX] {
+            assert_eq!(bench.switch(0, value), Err(Refusal(33)));
+        }
+        assert_eq!(bench, before);
+    }
+    // 0 and 1 are taken, on the pane that is named.
+    let mut bench = two();
+    assert_eq!(bench.switch(1, 1), Ok(()));
+    let switches = |bench: &Bench| [0, 1].map(|pane| bench.console.panes[pane].trap_switch);
+    assert_eq!(switches(&bench), [false, true]);
+    assert_eq!(bench.switch(1, 0), Ok(()));
+    assert_eq!(switches(&bench), [false, false]);
 }

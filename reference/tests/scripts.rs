@@ -26,11 +26,11 @@ fn scripts(folder: &Path) -> Vec<(String, Vec<u8>, String)> {
 }
 
 /// Whether a script has a line that begins with a letter of `calls` alone, for
-/// peek, clear or the judge.
+/// peek, clear, the judge or the trap switch.
 fn has_letter_of_calls(script: &[u8]) -> bool {
     lines_of(script)
         .iter()
-        .any(|line| matches!(line.first(), Some(b'k' | b'c' | b'j')))
+        .any(|line| matches!(line.first(), Some(b'k' | b'c' | b'j' | b't')))
 }
 
 #[test]
@@ -61,7 +61,7 @@ fn scripts_of_calls_reply_as_written() {
     let folder = folder("tests/calls");
     let list = fs::read_to_string(folder.join("README.md")).unwrap();
     let scripts = scripts(&folder);
-    assert!(scripts.len() >= 13);
+    assert!(scripts.len() >= 21);
     for (name, script, replies) in scripts {
         assert_eq!(answer(Language::Calls, &script), replies, "script {name}");
         assert!(list.contains(&format!("`{name}`")), "{name} is not listed");
@@ -69,14 +69,14 @@ fn scripts_of_calls_reply_as_written() {
 }
 
 /// "A malformed line … prints ? and does nothing": the papers have no letter
-/// for peek, clear and the judge.
+/// for peek, clear, the judge and the trap switch.
 #[test]
-fn panes_takes_no_peek_clear_or_judge() {
+fn panes_takes_no_peek_clear_judge_or_switch() {
     let opened = "s,8,2,1\np,0,0,8,2,16\no\ng,0,2\n";
-    let script = format!("{opened}k,0,0\nj,0,4\nj,0,5\nc,0\nl,0\n");
-    let replies = "o,0\ng,0\n?\n?\n?\n?\nl,0,1,0,2,0,0,0,0\n";
+    let script = format!("{opened}k,0,0\nj,0,4\nj,0,5\nt,0,1\nt,0,2\nc,0\nl,0\n");
+    let replies = "o,0\ng,0\n?\n?\n?\n?\n?\n?\nl,0,1,0,2,0,0,0,0\n";
     assert_eq!(answer(Language::Panes, script.as_bytes()), replies);
-    let replies = "o,0\ng,0\nk,0,0\nj,0,20,4\nj,3\nc,0\nl,0,0,0,0,0,0,0,0\n";
+    let replies = "o,0\ng,0\nk,0,0\nj,0,20,4\nj,3\nt,0\nt,33\nc,0\nl,0,0,0,0,0,0,0,0\n";
     assert_eq!(answer(Language::Calls, script.as_bytes()), replies);
 }
 

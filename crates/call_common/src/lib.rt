@@ -138,6 +138,7 @@ pub fn fresh() -> Pane
             picking: false,
             pick: false,
             trap: false,
+            switch: false,
         },
         returns: Returns {
             addresses: [0; 8],

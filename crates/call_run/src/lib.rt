@@ -9,26 +9,41 @@ use model::Pane;
 use model::Ran;
 use model::Reply;
 use model::STATUS_RUNNING;
+use model::STATUS_TRAPPED;
 use processor::Finished;
 ghost use mathlib.Core.Path.{_≡_};
 ghost use Prim.Native.Nat.{ℕ};
-ghost use Rattle.model.specs.Calls.{exec, on, ownRefusal};
+ghost use Rattle.model.specs.Calls.{exec, on, ownRefusal, released};
 ghost use Rattle.model.specs.Calls as calls;
 ghost use Rattle.model.specs.declared.Row.{Row};
 ghost use Rattle.call_common.specs.Answers.{state, answer};
 ghost use Rattle.call_run.specs.Running.{ranReply};
 
-// A status that isn't 1.
+// A status that is neither 1 nor 4.
 const REFUSE_STATUS: u8 = 4;
 
-// Run's own refusal: 4 if the pane's status isn't 1, or 0.
+// Run's own refusal: 4 if the pane's status is neither 1 nor 4, or 0.
 fn run_refusal(pane: Pane) -> u8
     ensures { λ r. ⌜ ((row : Row) (budget : ℕ) → r ≡ ownRefusal row pane (calls.run budget)) ⌝ }
 {
-    if pane.progress.status == STATUS_RUNNING {
+    let status = pane.progress.status;
+    if (status == STATUS_RUNNING) | (status == STATUS_TRAPPED) {
         return 0;
     }
     REFUSE_STATUS
+}
+
+// The record that a run begins with: at status 4 the trap flag is cleared and the status is 1 (02, A.7).
+fn released(pane: Pane) -> Pane
+    ensures { λ q. ⌜ q ≡ released pane ⌝ }
+{
+    if pane.progress.status != STATUS_TRAPPED {
+        return pane;
+    }
+    let mut q = pane;
+    q.flags.trap = false;
+    q.progress.status = STATUS_RUNNING;
+    q
 }
 
 // Commands done, status, fault, pixels drawn.
@@ -43,9 +58,9 @@ fn ran(s: Finished) -> Reply
     })
 }
 
-// Does at most so many commands of the pane with a number; refused 4 if its status isn't 1. Answers the
-// commands done, the status, the fault and the pixels drawn. The pane's own part of the stores is lent on, and
-// nothing else of it.
+// Does at most so many commands of the pane with a number; refused 4 if its status is neither 1 nor 4. Answers
+// the commands done, the status, the fault and the pixels drawn. The pane's own part of the stores is lent on,
+// and nothing else of it.
 pub fn run(
     screen: &mut [u8],
     stores: &mut [u8],
@@ -70,6 +85,7 @@ pub fn run(
     let f = Frame { geometry, row };
     let start = row.start as usize;
     let end = start + row.len as usize;
-    let s = processor::run(screen, &mut stores[start..end], f, pane, budget);
+    let begun = released(pane);
+    let s = processor::run(screen, &mut stores[start..end], f, begun, budget);
     with_record(console, number, s.pane, ran(s))
 }

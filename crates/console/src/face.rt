@@ -77,3 +77,10 @@ fn judge(screen: &[u8], stores: &[u8], console: Console, number: u32, address: u
 {
     crate::judge(screen, stores, console, number, address)
 }
+
+fn switch(screen: &[u8], stores: &[u8], console: Console, number: u32, value: u32) -> Answered
+    ensures { λ r. ⌜ answer r (now (screen .entry)) (now (stores .entry))
+        ≡ exec (state console (now (screen .entry)) (now (stores .entry))) (on number (calls.switch value)) ⌝ }
+{
+    crate::switch(screen, stores, console, number, value)
+}

@@ -11,6 +11,7 @@ pub use call_pixel::pixel;
 pub use call_record::clear::clear;
 pub use call_record::look::look;
 pub use call_record::start::start;
+pub use call_record::switch::switch;
 pub use call_run::run;
 pub use call_setup::set_up;
 pub use call_store::peek::peek;

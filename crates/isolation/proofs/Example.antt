@@ -4,13 +4,13 @@ use Prim.Native.Nat.{zero, suc}
 use native.Mathlib.Omega.{arith}
 use Rattle.model.specs.Words.{bitAt}
 use Rattle.model.specs.Calls.{setUp}
-use Rattle.isolation.specs.TwoRuns.{after, repliesOn, SamePixels, TwoRuns, Alike, InNoPixels, InNoStore}
+use Rattle.model.proofs.Computing.{machine}
+use Rattle.isolation.specs.TwoRuns.{after, callsOn, repliesOn, Accepted, SamePixels, storeIn, TwoRuns, Alike, InNoPixels, InNoStore}
 use Rattle.isolation.specs.Example.{sixByTwo, row, first, second, firstCalls, secondCalls, replies, Worked}
-use Rattle.isolation.proofs.Computing.{machine}
 use Rattle.isolation.proofs.Theorem.{isolation}
 
 begin-equal : SamePixels sixByTwo row (first .screen) (second .screen)
-unfolding machine
+unfolding machine SamePixels
 begin-equal zero zero h k = refl
 begin-equal zero (suc zero) h k = refl
 begin-equal (suc zero) zero h k = refl
@@ -20,7 +20,7 @@ begin-equal (suc zero) (suc (suc y)) h k = absurd (omega arith)
 begin-equal (suc (suc x)) y h k = absurd (omega arith)
 
 supposed : TwoRuns sixByTwo 0 row first second firstCalls secondCalls
-unfolding machine
+unfolding machine callsOn Accepted storeIn
 supposed = record {
   accepts-a = refl;
   accepts-b = refl;
@@ -39,7 +39,7 @@ pub alike : Alike sixByTwo 0 row first second firstCalls secondCalls
 alike = isolation .two-runs sixByTwo 0 row first second firstCalls secondCalls supposed
 
 first-replies : repliesOn 0 (setUp first .state) firstCalls ≡ replies
-unfolding machine
+unfolding machine repliesOn
 first-replies = refl
 
 bit-alone : InNoPixels first 12
@@ -55,7 +55,7 @@ byte-alone (suc zero) h p = omega (arith, p .from)
 byte-alone (suc (suc k)) h p = omega arith
 
 pub worked : Worked
-unfolding machine
+unfolding machine after
 worked = record {
   supposed = supposed;
   first-replies = first-replies;

@@ -5,5 +5,4 @@ pub mod Agreement
 pub mod Purge
 pub mod Bits
 pub mod Theorem
-pub mod Computing
 pub mod Example

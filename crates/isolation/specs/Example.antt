@@ -10,7 +10,7 @@ use lib.ListN.{replicate}
 use Rattle.model.specs.declared.Geometry.{Geometry}
 use Rattle.model.specs.declared.Row.{Row}
 use Rattle.model.specs.Replies.{Response, refusedWith, acceptedWith, natural, address}
-use Rattle.model.specs.Calls.{State, Request, on, put, start, run, look, pixel, peek, clear, judge, setUp}
+use Rattle.model.specs.Calls.{State, Request, on, put, start, run, look, pixel, peek, clear, judge, switch, setUp}
 use Rattle.isolation.specs.TwoRuns.{after, repliesOn, TwoRuns, InNoPixels, InNoStore}
 
 -- ## Two consoles
@@ -69,12 +69,19 @@ end = 1 ∷ 3 ∷ []
 abbrev pub drawingList : List ℕ
 drawingList = lineAcross 1 1 0x34 0x12 ++ (copyDown ++ end)
 
+-- 00: DEF_CHAR_SET 10, byte mode; 06: CHAR of the string at 16, one character; 0E: the end word. The font: 10:
+-- code 0 names the descriptor at 10 + 2 × 1; 12: T, 1 by 1; 14: its row, one bit that is 1. 16: the string, code 0
+abbrev pub markedList : List ℕ
+markedList =
+    0 ∷ 0x0B ∷ 0x10 ∷ 0 ∷ 0 ∷ 0 ∷ 0 ∷ 0xA6 ∷ 0x16 ∷ 0 ∷ 0 ∷ 0 ∷ 1 ∷ 0 ∷ 1 ∷ 3 ∷ 1 ∷ 0 ∷ 0 ∷ 0x80 ∷ 1 ∷ 0 ∷ 0 ∷ []
+
 abbrev pub firstCalls : List Request
 firstCalls =
     on 0 (put 0 drawingList) ∷ on 1 (put 0 (lineAcross 1 0 0xCD 0xAB ++ end)) ∷ on 0 (start 0) ∷ on 1 (start 0)
     ∷ on 1 (run 9) ∷ on 0 (run 4) ∷ on 5 look ∷ on 0 (start 1) ∷ on 0 (pixel 0 0) ∷ on 0 (run 9)
     ∷ on 0 (pixel 1 1) ∷ on 0 (pixel 2 0) ∷ on 1 clear ∷ on 0 (peek 48) ∷ on 0 (run 1) ∷ on 0 look
-    ∷ on 0 (judge 0) ∷ on 0 (judge 6) ∷ []
+    ∷ on 0 (judge 0) ∷ on 0 (judge 6) ∷ on 0 (put 0 markedList) ∷ on 0 (start 0) ∷ on 0 (switch 1) ∷ on 0 (run 9)
+    ∷ on 1 (switch 1) ∷ on 0 (switch 2) ∷ on 0 look ∷ on 0 (run 0) ∷ on 0 (run 9) ∷ on 0 look ∷ []
 
 abbrev pub secondCalls : List Request
 secondCalls =
@@ -82,7 +89,8 @@ secondCalls =
     ∷ on 0 (start 0) ∷ on 0 (run 4) ∷ on 0 (start 1) ∷ on 1 (put 0 (lineAcross 2 0 0xCD 0xAB ++ end))
     ∷ on 1 (start 0) ∷ on 1 (run 3) ∷ on 0 (pixel 0 0) ∷ on 0 (run 9) ∷ on 1 (run 9) ∷ on 0 (pixel 1 1)
     ∷ on 0 (pixel 2 0) ∷ on 7 clear ∷ on 0 (peek 48) ∷ on 0 (run 1) ∷ on 1 (peek 32) ∷ on 0 look ∷ on 1 (judge 0)
-    ∷ on 0 (judge 0) ∷ on 0 (judge 6) ∷ []
+    ∷ on 0 (judge 0) ∷ on 0 (judge 6) ∷ on 0 (put 0 markedList) ∷ on 0 (start 0) ∷ on 0 (switch 1) ∷ on 0 (run 9)
+    ∷ on 0 (switch 2) ∷ on 0 look ∷ on 0 (run 0) ∷ on 1 look ∷ on 0 (run 9) ∷ on 0 look ∷ []
 
 -- ## What comes of it
 
@@ -99,7 +107,16 @@ replies =
     -- look: ended, no fault, pointer 2E hex, position (1,1), no flag
     ∷ acceptedWith (natural 2 ∷ natural 0 ∷ address 0x2E ∷ natural 1 ∷ natural 1 ∷ natural 0 ∷ natural 0 ∷ [])
     -- judge: clean, six commands; and where DEF_BITMAP's xmax stands, 0001 hex is an end word
-    ∷ acceptedWith (natural 0 ∷ natural 6 ∷ []) ∷ acceptedWith (natural 0 ∷ natural 0 ∷ []) ∷ []
+    ∷ acceptedWith (natural 0 ∷ natural 6 ∷ []) ∷ acceptedWith (natural 0 ∷ natural 0 ∷ [])
+    -- put, start, the switch turned on, run: two commands, status 4, one pixel, 3 again at (1,1); no such value of
+    -- the switch; look: status 4, pointer 0E hex, the position one to the right, the trap flag
+    ∷ acceptedWith [] ∷ acceptedWith [] ∷ acceptedWith []
+    ∷ acceptedWith (natural 2 ∷ natural 4 ∷ natural 0 ∷ natural 1 ∷ []) ∷ refusedWith 33
+    ∷ acceptedWith (natural 4 ∷ natural 0 ∷ address 0x0E ∷ natural 2 ∷ natural 1 ∷ natural 0 ∷ natural 1 ∷ [])
+    -- run with budget 0: status 1; run: ended; look: the trap flag is cleared
+    ∷ acceptedWith (natural 0 ∷ natural 1 ∷ natural 0 ∷ natural 0 ∷ [])
+    ∷ acceptedWith (natural 0 ∷ natural 2 ∷ natural 0 ∷ natural 0 ∷ [])
+    ∷ acceptedWith (natural 2 ∷ natural 0 ∷ address 0x0E ∷ natural 2 ∷ natural 1 ∷ natural 0 ∷ natural 0 ∷ []) ∷ []
 
 pub record Worked : Type 0 where
   pub supposed : TwoRuns sixByTwo 0 row first second firstCalls secondCalls

@@ -7,7 +7,8 @@
 -- reply in both runs, and after the lists its pixels, store and record are the same. And after every such
 -- list on any console that set-up accepted, each bit of both buffers that is in no pane's pixels or store has
 -- its first value." Paper 01, "For those who test a delivery", fixes the words; it is quoted where a
--- definition states it. The judge (02, A.2) is one of these calls: "the two-run guarantee includes" it (A.7).
+-- definition states it. The judge (02, A.2) and the trap switch (A.7) are such calls too: "the two-run guarantee
+-- includes both" (A.7).
 use mathlib.Core.Path.{_≡_}
 use mathlib.Core.Bool.{Bool, true, false}
 use mathlib.Core.List.{List, [], _∷_}
@@ -22,8 +23,8 @@ use Rattle.model.specs.Calls.{State, Request, exec, setUp, rowOf, recordOf, par
 
 -- ## Whole lists of calls
 
--- A Request is one "of the calls put, start, run, look, pixel, peek and clear", or judge, "with any pane
--- numbers, refused calls included"; exec does it or refuses it.
+-- A Request is one "of the calls put, start, run, look, pixel, peek and clear", or judge or switch, "with any
+-- pane numbers, refused calls included"; exec does it or refuses it.
 
 -- "Each call gets the record and buffers that the one before left": what a list of calls leaves, the first of
 -- them lent the state s

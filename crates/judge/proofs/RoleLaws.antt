@@ -110,68 +110,71 @@ module _ (g : Geometry) (r : Row) (p : Pane) (see : ℕ → ℕ → ℕ) (store 
   abbrev left : Command → Pane
   left c = planOf g r p store next (effectOf g r p see store next c) .pane
 
+  -- the trap switch off, it leaves the status, and the switch off
+  abbrev Unstopped : Command → Type 0
+  Unstopped c = p .flags .switch ≡ false → (left c .progress .status ≡ p .progress .status) × (left c .flags .switch ≡ false)
+
   pub record Follows (c : Command) : Type 0 where
     -- followed, or 31
     pub cases : ((barredFault c ≡ 0) × Followed (roleOf c)) ⊎ ((barredFault c ≡ faultBarred) × (roleOf c ≡ role.Faulty faultBarred))
     -- followed, it leaves what its role says, whatever the pane shows
     pub stands : Followed (roleOf c) → standingOf (left c) ≡ changed (standingOf p) next (roleOf c)
-    -- it leaves the status
-    pub status : left c .progress .status ≡ p .progress .status
+    pub unstopped : Unstopped c
     pub fair : Addressed c → faultOf g r (contextOf p) store c ≡ 0 → RoleFair g r (p .returns .count) (roleOf c)
 
   unchanging : {c : Command} → (barredFault c ≡ 0) × Followed (roleOf c) → (Followed (roleOf c) → standingOf (left c) ≡ changed (standingOf p) next (roleOf c))
-      → left c .progress .status ≡ p .progress .status → RoleFair g r (p .returns .count) (roleOf c) → Follows c
-  unchanging a b s f = record { cases = inl a; stands = b; status = s; fair = λ h e. f }
+      → Unstopped c → RoleFair g r (p .returns .count) (roleOf c) → Follows c
+  unchanging a b u f = record { cases = inl a; stands = b; unstopped = u; fair = λ h e. f }
 
   pub follows : (c : Command) → Follows c
   unfolding barredFault roleOf faultOf effectOf planOf
-  follows (command.Link a) = record { cases = inr (refl, refl); stands = λ h. absurd h; status = refl; fair = λ h e. tt }
-  follows command.Nop = unchanging (refl, tt) (λ h. refl) refl tt
-  follows (command.DefTexture pattern t) = unchanging (refl, tt) (λ h. refl) refl tt
+  follows (command.Link a) = record { cases = inr (refl, refl); stands = λ h. absurd h; unstopped = λ o. (refl, o); fair = λ h e. tt }
+  follows command.Nop = unchanging (refl, tt) (λ h. refl) (λ o. (refl, o)) tt
+  follows (command.DefTexture pattern t) = unchanging (refl, tt) (λ h. refl) (λ o. (refl, o)) tt
   follows (command.DefCharSet base t) = record {
     cases = inl (refl, tt);
     stands = λ h. refl;
-    status = refl;
+    unstopped = λ o. (refl, o);
     fair = λ h e. good-fontOf t base (eqb-false (base % 2) 1 (cond-none (eqb (base % 2) 1) faultData 0 tt e .0)) (h base fontAt);
   }
   follows (command.Call a) = record {
     cases = inl (refl, tt);
     stands = λ h. refl;
-    status = refl;
+    unstopped = λ o. (refl, o);
     fair = λ h e. leb-false 8 (p .returns .count) (cond-none (leb 8 (p .returns .count)) faultCall 0 tt e .0);
   }
   follows command.Return = record {
     cases = inl (refl, tt);
     stands = λ h. refl;
-    status = refl;
+    unstopped = λ o. (refl, o);
     fair = λ h e. positive (eqb-false (p .returns .count) 0 (cond-none (eqb (p .returns .count) 0) faultReturn 0 tt e .0));
   }
   follows (command.DefBitmap a xmax ymax b) = split (eqb a paneAddress)
       (λ t. record {
         cases = rw t (inl (refl, tt));
         stands = λ h. rw t;
-        status = refl;
+        unstopped = λ o. (refl, o);
         fair = λ h e. rw t (rw t at (cond-none (ruleBroken g r (bitmapOf a xmax ymax b)) faultBitmap 0 tt e .0));
       })
-      (λ t. record { cases = rw t (inr (refl, refl)); stands = λ h. absurd (rw t at h); status = refl; fair = λ h e. rw t tt })
-  follows (command.DefColors fore back) = unchanging (refl, tt) (λ h. refl) refl tt
-  follows (command.DefLogicalOp mask code) = unchanging (refl, tt) (λ h. refl) refl tt
-  follows command.EnterPick = unchanging (refl, tt) (λ h. refl) refl tt
-  follows command.ExitPick = unchanging (refl, tt) (λ h. refl) refl tt
-  follows (command.DefClipRect xmin ymin xmax ymax) = unchanging (refl, tt) (λ h. refl) refl tt
-  follows (command.DefSpace spacing) = unchanging (refl, tt) (λ h. refl) refl tt
-  follows (command.DefCharOrient orientation) = unchanging (refl, tt) (λ h. refl) refl tt
-  follows (command.AbsMov x y) = unchanging (refl, tt) (λ h. refl) refl tt
-  follows (command.RelMov dx dy) = unchanging (refl, tt) (λ h. refl) refl tt
-  follows (command.Point dx dy) = unchanging (refl, tt) (λ h. refl) refl tt
-  follows (command.Line dx dy) = unchanging (refl, tt) (λ h. refl) refl tt
-  follows (command.Rect dx dy) = unchanging (refl, tt) (λ h. refl) refl tt
-  follows (command.BitBlt b) = unchanging (refl, tt) (λ h. refl) refl tt
-  follows (command.Polyline a n) = unchanging (refl, tt) (λ h. refl) refl tt
-  follows (command.Circle radius) = unchanging (refl, tt) (λ h. refl) refl tt
-  follows (command.Char a n t) = unchanging (refl, tt) (λ h. refl) refl tt
-  follows (command.BitBltM a xmax ymax b) = unchanging (refl, tt) (λ h. refl) refl tt
-  follows (command.ScanLines a n) = unchanging (refl, tt) (λ h. refl) refl tt
+      (λ t. record { cases = rw t (inr (refl, refl)); stands = λ h. absurd (rw t at h); unstopped = λ o. (refl, o); fair = λ h e. rw t tt })
+  follows (command.DefColors fore back) = unchanging (refl, tt) (λ h. refl) (λ o. (refl, o)) tt
+  follows (command.DefLogicalOp mask code) = unchanging (refl, tt) (λ h. refl) (λ o. (refl, o)) tt
+  follows command.EnterPick = unchanging (refl, tt) (λ h. refl) (λ o. (refl, o)) tt
+  follows command.ExitPick = unchanging (refl, tt) (λ h. refl) (λ o. (refl, o)) tt
+  follows (command.DefClipRect xmin ymin xmax ymax) = unchanging (refl, tt) (λ h. refl) (λ o. (refl, o)) tt
+  follows (command.DefSpace spacing) = unchanging (refl, tt) (λ h. refl) (λ o. (refl, o)) tt
+  follows (command.DefCharOrient orientation) = unchanging (refl, tt) (λ h. refl) (λ o. (refl, o)) tt
+  follows (command.AbsMov x y) = unchanging (refl, tt) (λ h. refl) (λ o. (refl, o)) tt
+  follows (command.RelMov dx dy) = unchanging (refl, tt) (λ h. refl) (λ o. (refl, o)) tt
+  follows (command.Point dx dy) = unchanging (refl, tt) (λ h. refl) (λ o. (rw o, o)) tt
+  follows (command.Line dx dy) = unchanging (refl, tt) (λ h. refl) (λ o. (rw o, o)) tt
+  follows (command.Rect dx dy) = unchanging (refl, tt) (λ h. refl) (λ o. (rw o, o)) tt
+  follows (command.BitBlt b) = unchanging (refl, tt) (λ h. refl) (λ o. (rw o, o)) tt
+  follows (command.Polyline a n) = unchanging (refl, tt) (λ h. refl) (λ o. (rw o, o)) tt
+  follows (command.Circle radius) = unchanging (refl, tt) (λ h. refl) (λ o. (rw o, o)) tt
+  follows (command.Char a n t) = unchanging (refl, tt) (λ h. refl) (λ o. (rw o, o)) tt
+  follows (command.BitBltM a xmax ymax b) = unchanging (refl, tt) (λ h. refl) (λ o. (rw o, o)) tt
+  follows (command.ScanLines a n) = unchanging (refl, tt) (λ h. refl) (λ o. (rw o, o)) tt
 
 module _ (g : Geometry) (r : Row) (p : Pane) (store : List ℕ) (c : Command) where
   -- the role holds the same fault as the paper's definition

@@ -1,38 +1,46 @@
--- Set-up and the calls on a pane (01, "Calls and their refusals, in order"): refusals 1 to 5 and where 6 and 12 stand before them, what each call
--- replies, and what it leaves: every bit of the record and of both buffers is compared.
+-- Set-up and the calls on a pane (01, "Calls and their refusals, in order"; 02, A.2 and A.7): refusals 1 to 5 and 33, where 6 and 12 stand before
+-- them, what each call replies, and what it leaves: every bit of the record and of both buffers is compared.
 use mathlib.Core.Path.{_≡_, refl}
-use mathlib.Core.Bool.{true, false}
+use mathlib.Core.Bool.{Bool, true, false}
 use mathlib.Core.List.{List, [], _∷_, _++_}
 use Prim.Native.Nat.{ℕ}
 use lib.IntN.{ℤ, pos}
 use lib.ListN.{replicate}
 use Rattle.model.specs.Bitmaps.{Geometry, Row}
-use Rattle.model.specs.Record.{Pane}
+use Rattle.model.specs.Record.{Pane, withFlags}
 use Rattle.model.specs.declared.Bitmap.the-variants as bitmap
 use Rattle.model.specs.declared.Font.the-variants as font
 use Rattle.model.specs.Figures.{neg}
 use Rattle.model.specs.Runs.{runs}
 use Rattle.model.specs.Setup.{rowAt}
-use Rattle.model.specs.Calls.{State, Answer, Request, on, put, start, run, look, pixel, peek, clear, judge, exec, setUp}
+use Rattle.model.specs.Calls.{State, Answer, Request, on, put, start, run, look, pixel, peek, clear, judge, switch, exec, setUp}
 use Rattle.model.proofs.Scripts.{values}
 use Rattle.model.proofs.Computing.{machine}
 
 -- ## Two panes
 
--- a record in which nothing is as in a fresh one but the scissor, its bitmap being in the store: faulted, two return addresses kept
-abbrev busy : Pane
-busy =
+-- a record in which nothing is as in a fresh one but the scissor, its bitmap being in the store: two return addresses kept; by status and fault,
+-- trap flag and switch
+abbrev busyAt : ℕ → ℕ → Bool → Bool → Pane
+busyAt status fault trap stops =
     record {
-      progress = record { status = 3; fault = 29; pointer = 6 };
+      progress = record { status = status; fault = fault; pointer = 6 };
       position = record { x = 0xFFFB; y = 7 };
       bitmap = bitmap.Store 2 15 1 1;
       clip = record { xmin = 1; ymin = 0; xmax = 14; ymax = 1 };
       scissor = record { left = 0; top = 0; width = 0; height = 0 };
       pen = record { fore = 0x1234; back = 0x5678; op = 6; mask = 0xFF0F; pattern = 0xAAAA; transparent = true };
       text = record { spacing = 3; path = 1; rotation = 2; font = font.Byte 8 };
-      flags = record { picking = true; pick = true; trap = true };
+      flags = record { picking = true; pick = true; trap = trap; switch = stops };
       returns = record { addresses = 4 ∷ 2 ∷ 0 ∷ 0 ∷ 0 ∷ 0 ∷ 0 ∷ 0 ∷ []; count = 2 };
     }
+
+-- faulted, and stopped after a CHAR that met a T
+abbrev busy : Pane
+busy = busyAt 3 29 true true
+
+abbrev stopped : Pane
+stopped = busyAt 4 0 true true
 
 -- "pointer at the address, status 1, fault 0, no return addresses, the rest kept"
 abbrev busyStarted : ℕ → Pane
@@ -45,7 +53,7 @@ busyStarted a =
       scissor = record { left = 0; top = 0; width = 0; height = 0 };
       pen = record { fore = 0x1234; back = 0x5678; op = 6; mask = 0xFF0F; pattern = 0xAAAA; transparent = true };
       text = record { spacing = 3; path = 1; rotation = 2; font = font.Byte 8 };
-      flags = record { picking = true; pick = true; trap = true };
+      flags = record { picking = true; pick = true; trap = true; switch = true };
       returns = record { addresses = replicate 8 0; count = 0 };
     }
 
@@ -60,7 +68,7 @@ asNew =
       scissor = record { left = 0; top = 0; width = 0; height = 0 };
       pen = record { fore = 0; back = 0; op = 5; mask = 0xFFFF; pattern = 0xFFFF; transparent = false };
       text = record { spacing = 0; path = 0; rotation = 0; font = font.Absent };
-      flags = record { picking = false; pick = false; trap = false };
+      flags = record { picking = false; pick = false; trap = false; switch = false };
       returns = record { addresses = replicate 8 0; count = 0 };
     }
 
@@ -75,9 +83,13 @@ drawing status fault pointer x =
       scissor = record { left = 9; top = 1; width = 5; height = 1 };
       pen = record { fore = 0xFFFF; back = 0; op = 5; mask = 0xFFFF; pattern = 0xFFFF; transparent = false };
       text = record { spacing = 0; path = 0; rotation = 0; font = font.Absent };
-      flags = record { picking = false; pick = false; trap = false };
+      flags = record { picking = false; pick = false; trap = false; switch = false };
       returns = record { addresses = replicate 8 0; count = 0 };
     }
+
+-- a record with no flag but the trap flag and the switch, as they are given
+abbrev flagged : Pane → Bool → Bool → Pane
+flagged p trap stops = withFlags p (record { picking = false; pick = false; trap = trap; switch = stops })
 
 -- on a screen of 16 by 2 pixels of depth 1: pane 0 of 6 by 2 at (3,0), pane 1 of 5 by 1 at (9,1)
 abbrev geometry : Geometry
@@ -143,7 +155,11 @@ refuses s c n = tells s c (pos n ∷ [])
 abbrev leaves : Request → List ℤ → State → Case
 leaves c v t = record { lent = begin; call = c; values = v; left = t }
 
--- all eight calls on a pane, with values that would be refused for themselves too
+-- a call on pane 0 that leaves another record at most
+abbrev turns : Pane → Request → List ℤ → Pane → Case
+turns p c v q = record { lent = state p (drawing 1 0 0 1) screen stores; call = c; values = v; left = state q (drawing 1 0 0 1) screen stores }
+
+-- all nine calls on a pane, with values that would be refused for themselves too
 abbrev everyCall : State → ℕ → ℕ → List Case
 everyCall s k n =
     refuses s (on k (put 9 [])) n
@@ -154,6 +170,7 @@ everyCall s k n =
     ∷ refuses s (on k (peek 9)) n
     ∷ refuses s (on k clear) n
     ∷ refuses s (on k (judge 9)) n
+    ∷ refuses s (on k (switch 2)) n
     ∷ []
 
 -- records that refusal 12 names, and besides a geometry that 6 names
@@ -227,6 +244,34 @@ table =
     ∷ refuses begin (on 0 (judge 7)) 3
     ∷ refuses begin (on 0 (judge 9)) 3
     ∷ refuses begin (on 1 (judge 6)) 2
+    -- ## The switch (02, A.7): 0 turns it off and 1 on, at status 3, 0, 2 and 1, and nothing else changes
+    ∷ turns busy (on 0 (switch 0)) (pos 0 ∷ []) (busyAt 3 29 true false)
+    ∷ turns busy (on 0 (switch 1)) (pos 0 ∷ []) busy
+    ∷ turns asNew (on 0 (switch 1)) (pos 0 ∷ []) (flagged asNew false true)
+    ∷ turns (flagged asNew true true) (on 0 (switch 0)) (pos 0 ∷ []) (flagged asNew true false)
+    ∷ turns (busyAt 2 0 false false) (on 0 (switch 1)) (pos 0 ∷ []) (busyAt 2 0 false true)
+    ∷ turns (busyAt 1 0 true true) (on 0 (switch 0)) (pos 0 ∷ []) (busyAt 1 0 true false)
+    ∷ leaves (on 1 (switch 1)) (pos 0 ∷ []) (state busy (flagged (drawing 1 0 0 1) false true) screen stores)
+    ∷ refuses begin (on 0 (switch 2)) 33
+    ∷ refuses begin (on 1 (switch 0xFFFFFFFF)) 33
+    -- ## Status 4 (02, A.7): turned off it is 1 and the flag stays, turned on nothing changes
+    ∷ turns stopped (on 0 (switch 0)) (pos 0 ∷ []) (busyAt 1 0 true false)
+    ∷ turns stopped (on 0 (switch 1)) (pos 0 ∷ []) stopped
+    ∷ turns stopped (on 0 (switch 2)) (pos 33 ∷ []) stopped
+    -- run clears the flag, with budget 0 too, and goes on: pane 0 faults at its CHAR cut short, pane 1 draws its POINT
+    ∷ turns stopped (on 0 (run 0)) (pos 0 ∷ pos 0 ∷ pos 1 ∷ pos 0 ∷ pos 0 ∷ []) (busyAt 1 0 false true)
+    ∷ turns stopped (on 0 (run 1)) (pos 0 ∷ pos 0 ∷ pos 3 ∷ pos 21 ∷ pos 0 ∷ []) (busyAt 3 21 false true)
+    ∷ record {
+      lent = state busy (flagged (drawing 4 0 0 1) true true) screen stores;
+      call = on 1 (run 1);
+      values = pos 0 ∷ pos 1 ∷ pos 1 ∷ pos 0 ∷ pos 1 ∷ [];
+      left = state busy (flagged (drawing 1 0 6 3) false true) (0b01101100 ∷ 0b10110101 ∷ 0b00001000 ∷ 0b00001111 ∷ []) stores;
+    }
+    -- start keeps the flag and the switch, clear neither; look and judge tell
+    ∷ turns stopped (on 0 (start 4)) (pos 0 ∷ []) (busyStarted 4)
+    ∷ turns stopped (on 0 clear) (pos 0 ∷ []) asNew
+    ∷ turns stopped (on 0 look) (pos 0 ∷ pos 4 ∷ pos 0 ∷ pos 6 ∷ neg 5 ∷ pos 7 ∷ pos 1 ∷ pos 1 ∷ []) stopped
+    ∷ turns stopped (on 0 (judge 6)) (pos 0 ∷ pos 21 ∷ pos 6 ∷ []) stopped
     -- ## 1, then 12, then a call's own; set-up's refusals before all
     ∷ refuses begin (on 9 look) 1
     ∷ everyCall begin 2 1

@@ -23,8 +23,8 @@ use Rattle.model.specs.Faults.{contextOf, faultOf}
 use Rattle.model.specs.Effects.{Effect, becomes, draws}
 use Rattle.model.specs.Steps.{Plan, onStore, planOf, attempted, obey, step}
 use Rattle.model.specs.Runs.{Finish, idle, carried, stepped, follow, runs}
-use Rattle.model.specs.Calls.{Call, put, start, run, look, pixel, peek, clear, judge, Outcome, outcome, ran, ownRefusal, onPane, State, Request, refusal}
-use Rattle.model.specs.Calls.{accepted, refused, exec}
+use Rattle.model.specs.Calls.{Call, put, start, run, look, pixel, peek, clear, judge, switch, Outcome, outcome, ran, ownRefusal, onPane, State, Request}
+use Rattle.model.specs.Calls.{released, refusal, accepted, refused, exec}
 use Rattle.model.proofs.Decisions.{cond-none, cond-true, cond-false, cond-ind, cond-rel}
 use Rattle.model.proofs.FieldLaws.{length-put}
 use Rattle.model.proofs.PartLaws.{length-inPart}
@@ -148,12 +148,13 @@ module _ (g : Geometry) (r : Row) (p : Pane) where
       let h = ltb-false (r .len) (a + length bytes) (cond-none (ltb (r .len) (a + length bytes)) refuseEnd 0 tt e .0) in
       local-screen _ _ s store _ (length-inPart store a (length bytes) bytes refl (omega arith))
   onPane-local s store f m (start a) e = local-screen _ _ s store store refl
-  onPane-local s store f m (run n) e = record { size = runs-length g r n p s store; frame = runs-frame g r n p s store f }
+  onPane-local s store f m (run n) e = record { size = runs-length g r n (released p) s store; frame = runs-frame g r n (released p) s store f }
   onPane-local s store f m look e = local-screen _ _ s store store refl
   onPane-local s store f m (pixel x y) e = local-screen _ _ s store store refl
   onPane-local s store f m (peek a) e = local-screen _ _ s store store refl
   onPane-local s store f m clear e = local-screen _ _ s store store refl
   onPane-local s store f m (judge a) e = local-screen _ _ s store store refl
+  onPane-local s store f m (switch v) e = local-screen _ _ s store store refl
 
   -- two outcomes that the pane cannot tell apart
   pub record SameOutcome (a b : Outcome) : Type 0 where
@@ -171,10 +172,10 @@ module _ (g : Geometry) (r : Row) (p : Pane) where
       unfolding onPane Steady
       onPane-agree (put a bytes) = same-screen _ _ _
       onPane-agree (start a) = same-screen _ _ _
-      onPane-agree (run n) = go (runs-agree g r n p s t store f h e)
+      onPane-agree (run n) = go _ _ (runs-agree g r n (released p) s t store f h e)
         where
-          go : SameRan g r (runs g r n p s store) (runs g r n p t store) → SameOutcome (ran (runs g r n p s store)) (ran (runs g r n p t store))
-          go w = record {
+          go : (a b : Finish) → SameRan g r a b → SameOutcome (ran a) (ran b)
+          go a b w = record {
             reply =
                 λ i. acceptedWith (ranValues (record {
                   commands = w .count i;
@@ -191,6 +192,7 @@ module _ (g : Geometry) (r : Row) (p : Pane) where
       onPane-agree (peek a) = same-screen _ _ _
       onPane-agree clear = same-screen _ _ _
       onPane-agree (judge a) = same-screen _ _ _
+      onPane-agree (switch v) = same-screen _ _ _
 
 -- ## A call is refused, or accepted
 

@@ -17,9 +17,9 @@ use Rattle.model.specs.Effects.{effectOf}
 use Rattle.model.specs.Steps.{madeBy, paintOf, planOf, attempted, obey, step}
 use Rattle.model.specs.Runs.{stepped, follow, runs}
 use Rattle.model.specs.Judge.{barredFault, judgedFault, recordAfter, judgedCommand, met, metLast, listWalk, verdictOf}
-use Rattle.model.specs.Setup.{geometryBad, rectangleBad, storeBad, sharePixel, shareByte, checks, progressBad, paneBad}
+use Rattle.model.specs.Setup.{geometryBad, rectangleBad, storeBad, sharePixel, shareByte, checks, progressBad, trapBad, paneBad}
 use Rattle.model.specs.Calls.{part, inPart, ownRefusal, onPane, rowOf, recordOf, storeOf, setupRefusal, callChecks, refusal, withPane, accepted, exec}
-use Rattle.model.specs.Calls.{setUp}
+use Rattle.model.specs.Calls.{released, switched, setUp}
 
 -- drawing
 unfoldable pub figuring : Unit {0}
@@ -33,6 +33,6 @@ figuring = tt
 unfoldable pub machine : Unit {0}
 unfolding figuring opcodeOf commandOf fetch decode clipOutside arrayBad stringBad descriptorsBad faultOf scissorOf scissorStale effectOf madeBy
     paintOf planOf attempted obey step stepped follow runs barredFault judgedFault recordAfter judgedCommand met metLast listWalk verdictOf
-    geometryBad rectangleBad storeBad sharePixel shareByte checks progressBad paneBad part inPart ownRefusal onPane rowOf recordOf storeOf
-    setupRefusal callChecks refusal withPane accepted exec setUp
+    geometryBad rectangleBad storeBad sharePixel shareByte checks progressBad trapBad paneBad part inPart ownRefusal released switched onPane rowOf
+    recordOf storeOf setupRefusal callChecks refusal withPane accepted exec setUp
 machine = tt

@@ -16,7 +16,7 @@ use Rattle.model.specs.Lines.{major, offsetX, offsetY, segmentDots, line
 use Rattle.model.specs.Lines as lines
 use Rattle.model.specs.declared.Source.the-variants.{Colour}
 use Rattle.model.proofs.Computing.{machine}
-use Rattle.model.proofs.Listings.{minus, thePane, halt, defBitmap, defClipRect, defColors, defLogicalOp, opaque, transparent, absMov, polyline}
+use Rattle.model.proofs.Listings.{thePane, halt, defBitmap, defClipRect, defColors, defLogicalOp, opaque, transparent, absMov, polyline}
 use Rattle.model.proofs.Listings.{scanLines, bytes}
 use Rattle.model.proofs.Scripts.{piece}
 use Rattle.model.proofs.Pictures.{Picture, screen, paneRow, drawn, withPieces, blank, ended, outcomes, expectations}
@@ -119,16 +119,6 @@ table =
     0b10_10_10_10_10_11_10_11_10_10_11_10_11_10_10_10 ∷
     0b10_10_10_10_10_10_10_10_10_10_10_10_10_10_10_10 ∷
     0b10_10_10_10_10_10_10_10_10_10_10_11_10_11_10_10 ∷ []))
-    -- From (−32768,0) by (−32765,1), 32,766 pixels outside the pane, the position wraps to (3,1). The next segment skips that pixel, where none
-    -- was drawn, so column 3 stays as it was; column 4 has index 32,766, which is bit 1 of the pattern
-    ∷ withPieces (piece 0x28 (bytes (0x8003 ∷ 0x0001 ∷ 0x0004 ∷ 0x0000 ∷ [])) ∷ [])
-    (drawn (screen 8 2 2) (paneRow 0 0 8 2 48)
-    (defBitmap thePane 7 1 2 ∷ defColors 0xFFFF 0x5555 ∷ opaque 0x9003 ∷ absMov (minus 32768) 0 ∷ polyline 0x28 2 ∷ halt ∷ [])
-    (0b10_10_10_10_10_10_10_10 ∷
-    0b10_10_10_10_10_10_10_10 ∷ [])
-    (ended 5 4 36 (pos 7) (pos 1) 0 0)
-    (0b10_10_10_10_10_10_10_10 ∷
-    0b10_10_10_10_11_11_11_01 ∷ []))
     ∷ []
 
 pub joint-pictures : outcomes table ≡ expectations table

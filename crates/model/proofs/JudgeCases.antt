@@ -1,11 +1,11 @@
 -- The judge (02, A.2): lists and what it finds in them, worked out by hand from the sentences of the paper.
 use mathlib.Core.Path.{_≡_, refl}
-use mathlib.Core.List.{List, [], _∷_, _++_}
+use mathlib.Core.List.{List, [], _∷_}
 use Prim.Native.Nat.{ℕ}
-use lib.ListN.{length, replicate}
+use lib.ListN.{length}
 use Rattle.model.specs.Bitmaps.{Geometry, Row}
 use Rattle.model.specs.Record.{fresh}
-use Rattle.model.specs.Judge.{Verdict, verdictOf}
+use Rattle.model.specs.Judge.{Verdict, listWalk, verdictOf}
 use Rattle.model.specs.declared.Verdict.the-variants.{Clean, Found}
 use Rattle.model.specs.Calls.{started}
 use Rattle.model.proofs.Computing.{machine}
@@ -99,24 +99,15 @@ pub judge-cases : results table ≡ due table
 unfolding machine
 judge-cases = refl
 
--- ## 4,096 commands
+-- ## The last command
 
--- calls that multiply: 30 bytes of 14 NOPs and RETURN are 15 commands, and a list that calls another of n commands four times has 4n + 5
-abbrev fourTimes : ℕ → List (List ℕ)
-fourTimes a = call a ∷ call a ∷ call a ∷ call a ∷ return ∷ []
+-- where two commands are left to walk. That 4,096 are walked in all stands in the example of `verdicts`
+abbrev walked : List (List ℕ) → Verdict
+walked list = listWalk geometry (row (length (listing list))) (listing list) 2 (started fresh 0)
 
--- at 0 the lists of 15, 65, 265 and 1,065 commands, at 108 the list in question: 3 × 1,066 + 3 × 266 + 66 + 2 × 16 = 4,094 commands, and then
-abbrev long : List (List ℕ) → List (List ℕ)
-long rest =
-    replicate 14 nop ++ (return ∷ (fourTimes 0 ++ (fourTimes 30 ++ (fourTimes 56
-    ++ (call 82 ∷ call 82 ∷ call 82 ∷ call 56 ∷ call 56 ∷ call 56 ∷ call 30 ∷ call 0 ∷ call 0 ∷ rest)))))
-
-abbrev judgedLong : List (List ℕ) → Verdict
-judgedLong rest = verdictOf geometry (row (length (listing (long rest)))) (listing (long rest)) (started fresh 108)
-
--- "anything but an end word after 4,096 commands gets 32, ahead of its own faults and of 31": LINK, and the end of the store, at 166. A fault of
--- the last command that is walked, at 164, is that fault
-pub judged-long : judgedLong (nop ∷ nop ∷ halt ∷ []) ∷ judgedLong (nop ∷ nop ∷ link 0 ∷ []) ∷ judgedLong (nop ∷ nop ∷ []) ∷ judgedLong (nop ∷ point 0 0 ∷ []) ∷ []
-    ≡ Clean 4096 ∷ Found 32 166 ∷ Found 32 166 ∷ Found 23 164 ∷ []
+-- "anything but an end word after 4,096 commands gets 32, ahead of its own faults and of 31": LINK, and the end of the store. A fault of the last
+-- command that is walked is that fault
+pub walked-last : walked (nop ∷ nop ∷ halt ∷ []) ∷ walked (nop ∷ nop ∷ link 0 ∷ []) ∷ walked (nop ∷ nop ∷ []) ∷ walked (nop ∷ point 0 0 ∷ []) ∷ []
+    ≡ Clean 0 ∷ Found 32 4 ∷ Found 32 4 ∷ Found 23 2 ∷ []
 unfolding machine
-judged-long = refl
+walked-last = refl

@@ -31,6 +31,7 @@ pub mod CirclePictures
 pub mod PenPictures
 pub mod CopyPictures
 pub mod CharPictures
+pub mod TrapPictures
 pub mod ListPictures
 pub mod PaintPictures
 pub mod FaultCases

@@ -22,14 +22,15 @@ painted words (v ∷ vs) = rowBytes words v ++ painted words vs
 
 -- ## Pictures
 
--- a screen and the one pane on it; what is run, a list at the store's first byte, and other pieces of the store; the screen before it; then
--- run's and look's replies, the screen after it, and pieces of the store that are new
+-- a screen and the one pane on it; what is run, a list at the store's first byte, and other pieces of the store; the screen before it; the calls
+-- after start, and their replies; the screen after them, and pieces of the store that are new
 pub record Picture : Type 0 where
   pub geometry : Geometry
   pub pane : Row
   pub commands : List (List ℕ)
   pub pieces : List Piece
   pub before : List ℕ
+  pub calls : List Request
   pub replies : List (List ℤ)
   pub shows : List ℕ
   pub stored : List Piece
@@ -59,15 +60,12 @@ pub record Seen : Type 0 where
   pub screen : List ℕ
   pub stores : List ℕ
 
-abbrev calls : List Request
-calls = on 0 (start 0) ∷ on 0 (run 99) ∷ on 0 look ∷ []
-
 abbrev seen : Played → Seen
 seen p = record { replies = p .told; screen = p .left .screen; stores = p .left .stores }
 
 unfoldable pub outcome : Picture → Seen
 unfolding script
-outcome p = seen (script (lent p) calls)
+outcome p = seen (script (lent p) (on 0 (start 0) ∷ p .calls))
 
 abbrev pub expected : Picture → Seen
 expected p =
@@ -95,10 +93,21 @@ screen width height depth = record { width = width; height = height; depth = dep
 abbrev pub paneRow : ℕ → ℕ → ℕ → ℕ → ℕ → Row
 paneRow left top width height len = record { left = left; top = top; width = width; height = height; start = 2; len = len }
 
--- a list alone in the store, which it leaves as it was: the list, the screen before it, the replies, and the screen after it
+-- a list alone in the store, which it leaves as it was, run whole and looked at: the list, the screen before it, the replies, and the screen
+-- after it
 abbrev pub drawn : Geometry → Row → List (List ℕ) → List ℕ → List (List ℤ) → List ℕ → Picture
 drawn g row list before replies shows =
-    record { geometry = g; pane = row; commands = list; pieces = []; before = before; replies = replies; shows = shows; stored = [] }
+    record {
+      geometry = g;
+      pane = row;
+      commands = list;
+      pieces = [];
+      before = before;
+      calls = on 0 (run 99) ∷ on 0 look ∷ [];
+      replies = replies;
+      shows = shows;
+      stored = [];
+    }
 
 -- the same with pieces in the store beside the list, and pieces that it leaves new
 abbrev pub storing : List Piece → List Piece → Picture → Picture
@@ -109,6 +118,7 @@ storing pieces new p =
       commands = p .commands;
       pieces = pieces;
       before = p .before;
+      calls = p .calls;
       replies = p .replies;
       shows = p .shows;
       stored = new;
@@ -116,6 +126,21 @@ storing pieces new p =
 
 abbrev pub withPieces : List Piece → Picture → Picture
 withPieces pieces = storing pieces []
+
+-- .. and with other calls
+abbrev pub calling : List Request → Picture → Picture
+calling calls p =
+    record {
+      geometry = p .geometry;
+      pane = p .pane;
+      commands = p .commands;
+      pieces = p .pieces;
+      before = p .before;
+      calls = calls;
+      replies = p .replies;
+      shows = p .shows;
+      stored = p .stored;
+    }
 
 abbrev pub blank : ℕ → List ℕ
 blank n = replicate n 0

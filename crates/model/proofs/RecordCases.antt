@@ -1,4 +1,4 @@
--- Refusal 12 (01, "Calls and their refusals, in order"; 02, A.6): what a pane record may not have, sentence by sentence, and what it may. Each row
+-- Refusal 12 (01, "Calls and their refusals, in order"; 02, A.6 and A.7): what a pane record may not have, sentence by sentence, and what it may. Each row
 -- changes one thing of a good record.
 use mathlib.Core.Path.{_≡_, refl}
 use mathlib.Core.Bool.{Bool, true, false}
@@ -62,6 +62,10 @@ clip xmin ymin xmax ymax = record { xmin = xmin; ymin = ymin; xmax = xmax; ymax 
 abbrev at : ℕ → ℕ → Pane
 at status fault = withProgress fresh (record { status = status; fault = fault; pointer = 0 })
 
+-- .. and trap flag and switch
+abbrev with : ℕ → ℕ → Bool → Bool → Pane
+with status fault trap switch = withFlags (at status fault) (record { picking = false; pick = false; trap = trap; switch = switch })
+
 -- a bitmap with its clip and its scissor
 abbrev drawing : Bitmap → Clip → Scissor → Pane
 drawing b c s = withScissor (withClip (withBitmap fresh b) c) s
@@ -85,6 +89,20 @@ table =
     ∷ refused (at 4 0)
     ∷ refused (at 4 20)
     ∷ refused (at 255 0)
+    -- "Refusal 12 admits status 4 only with the switch on and the flag set" (02, A.7), and no fault there; at other statuses both are free
+    ∷ taken (with 4 0 true true)
+    ∷ refused (with 4 0 true false)
+    ∷ refused (with 4 0 false true)
+    ∷ refused (with 4 20 true true)
+    ∷ refused (with 4 1 true true)
+    ∷ refused (with 5 0 true true)
+    ∷ taken (with 0 0 true false)
+    ∷ taken (with 0 0 false true)
+    ∷ taken (with 1 0 true false)
+    ∷ taken (with 1 0 false true)
+    ∷ taken (with 1 0 true true)
+    ∷ taken (with 2 0 true true)
+    ∷ taken (with 3 20 true true)
     -- ## "a fault outside 20 to 29 at status 3 or not 0 elsewhere"; "refusal 12 admits fault 30 at status 3" (02, A.1)
     ∷ refused (at 3 0)
     ∷ refused (at 3 19)
@@ -195,7 +213,7 @@ table =
     ∷ taken (withProgress fresh (record { status = 1; fault = 0; pointer = 0xFFFFFFFF }))
     ∷ taken (withPosition fresh (record { x = 0xFFFF; y = 0x8000 }))
     ∷ taken (withSpacing fresh 0xFFFF)
-    ∷ taken (withFlags fresh (record { picking = true; pick = true; trap = true }))
+    ∷ taken (withFlags fresh (record { picking = true; pick = true; trap = true; switch = true }))
     ∷ taken (kept (replicate 8 0xFFFFFFFF) 0)
     ∷ []
 

@@ -8,7 +8,7 @@ use native.Mathlib.Omega.{arith}
 use lib.Dec.{eqb, ltb}
 use lib.ListN.{getD, set, replicate}
 use borrow.Author.Tests.{ltb-true, eqb-true, eq-eqb, not-false}
-use Rattle.model.specs.Numbers.{statusRunning}
+use Rattle.model.specs.Numbers.{statusRunning, statusTrapped}
 use Rattle.model.specs.declared.Geometry.{Geometry}
 use Rattle.model.specs.declared.Row.{Row}
 use Rattle.model.specs.declared.Bitmap.{Bitmap}
@@ -30,8 +30,8 @@ use Rattle.model.specs.Effects.{Effect, becomes, draws, effectOf}
 use Rattle.model.specs.Steps.{Plan, planOf, attempted, obey, step}
 use Rattle.model.specs.Runs.{Finish, stepped, follow, runs}
 use Rattle.model.specs.Replies.{refusedWith, acceptedWith}
-use Rattle.model.specs.Calls.{State, Call, put, start, run, look, pixel, peek, clear, judge, Request, Answer, onPane, rowOf, recordOf, setupRefusal}
-use Rattle.model.specs.Calls.{refusal, withPane, accepted, exec, setUp}
+use Rattle.model.specs.Calls.{State, Call, put, start, run, look, pixel, peek, clear, judge, switch, Request, Answer, onPane, rowOf, recordOf}
+use Rattle.model.specs.Calls.{setupRefusal, released, switched, refusal, withPane, accepted, exec, setUp}
 use Rattle.model.specs.ScissorKept.{CurrentIn, ScissorKept}
 use Rattle.model.proofs.Decisions.{split, holds, both-true, both-of, either-true, cond-true, cond-false, cond-ind}
 use Rattle.model.proofs.SetupLaws.{PaneBitmap, ruleBroken-pane, ClipIn, clipBeyond-says, clipEmpty-says, paneBad-says}
@@ -194,16 +194,21 @@ module _ (g : Geometry) (r : Row) where
       cond-ind (λ (f : Finish). Current r (f .pane)) (eqb (p .progress .status) statusRunning) _ _
       (λ e. runs-current n _ _ _ (step-current g r p h (pixels (paneSurface g r) s) store)) (λ e. h)
 
+  released-current : (p : Pane) → Current r p → Current r (released p)
+  unfolding released
+  released-current p h = cond-ind (Current r) (eqb (p .progress .status) statusTrapped) _ _ (λ e. h) (λ e. h)
+
   onPane-current : (p : Pane) (s store : List ℕ) → Current r p → (c : Call) → Current r (onPane g r p s store c .pane)
-  unfolding onPane scissorOf
+  unfolding onPane scissorOf switched
   onPane-current p s store h (put a bytes) = h
   onPane-current p s store h (start a) = h
-  onPane-current p s store h (run n) = runs-current n p s store h
+  onPane-current p s store h (run n) = runs-current n (released p) s store (released-current p h)
   onPane-current p s store h look = h
   onPane-current p s store h (pixel x y) = h
   onPane-current p s store h (peek a) = h
   onPane-current p s store h clear = refl
   onPane-current p s store h (judge a) = h
+  onPane-current p s store h (switch v) = h
 
 -- what holds of an element, and of what is put in its place, holds after that
 set-keeps : {A : Type 0} (P : A → Type 0) (l : List A) (i j : ℕ) (a d : A) → (j ≡ i → P a) → P (getD l j d) → P (getD (set l i a) j d)

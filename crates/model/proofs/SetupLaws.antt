@@ -20,7 +20,7 @@ use Rattle.model.specs.declared.Pane.{Pane}
 use Rattle.model.specs.Faults.{clipBeyond, clipOutside}
 use Rattle.model.specs.Scissor.{clipEmpty, scissorStale}
 use Rattle.model.specs.Setup.{rowAt, geometryBad, screenBytes, mostStore, rectangleBad, storeBad, sharePixel, shareByte, checks}
-use Rattle.model.specs.Setup.{progressBad, fontBad, paneBad}
+use Rattle.model.specs.Setup.{progressBad, trapBad, fontBad, paneBad}
 use borrow.Author.Tests.{ltb-false, lt-ltb, eqb-true, eqb-false, not-false}
 use Rattle.model.proofs.Decisions.{both-true, both-of, either-false, either-true, cond-none, holds}
 
@@ -234,6 +234,7 @@ clipEmpty-says c h =
 -- what a record that it lets pass has none of
 pub record Passed (g : Geometry) (r : Row) (p : Pane) : Type 0 where
   pub progress : progressBad (p .progress) ≡ false
+  pub trap : trapBad (p .progress .status) (p .flags) ≡ false
   pub rule : ruleBroken g r (p .bitmap) ≡ false
   pub clip : clipOutside (p .bitmap) (p .clip) ≡ false
   pub font : fontBad (p .text .font) ≡ false
@@ -247,7 +248,8 @@ pub paneBad-says : (g : Geometry) (r : Row) (p : Pane) → paneBad g r p ≡ fal
 unfolding paneBad
 paneBad-says g r p h =
     let a = either-false (progressBad (p .progress)) _ h in
-    let b = either-false (ruleBroken g r (p .bitmap)) _ (a .1) in
+    let t = either-false (trapBad (p .progress .status) (p .flags)) _ (a .1) in
+    let b = either-false (ruleBroken g r (p .bitmap)) _ (t .1) in
     let c = either-false (clipOutside (p .bitmap) (p .clip)) _ (b .1) in
     let d = either-false (fontBad (p .text .font)) _ (c .1) in
     let e = either-false (ltb 15 (p .pen .op)) _ (d .1) in
@@ -256,6 +258,7 @@ paneBad-says g r p h =
     let j = either-false (ltb 8 (p .returns .count)) (scissorStale r p) (i .1) in
     record {
       progress = a .0;
+      trap = t .0;
       rule = b .0;
       clip = c .0;
       font = d .0;

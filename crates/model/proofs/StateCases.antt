@@ -55,7 +55,7 @@ pub after-forwards :
       scissor = record { left = 0; top = 0; width = 0; height = 0 };
       pen = record { fore = 0x1111; back = 0x2222; op = 7; mask = 0x3333; pattern = 0xC444; transparent = false };
       text = record { spacing = 5; path = 1; rotation = 2; font = font.Word 0x20666 };
-      flags = record { picking = true; pick = false; trap = false };
+      flags = record { picking = true; pick = false; trap = false; switch = false };
       returns = record { addresses = 6 ∷ replicate 7 0; count = 1 };
     }
 unfolding machine recordAfter
@@ -71,7 +71,7 @@ pub after-backwards :
       scissor = record { left = 0; top = 0; width = 16; height = 2 };
       pen = record { fore = 0xDDDD; back = 0xEEEE; op = 9; mask = 0xCCCC; pattern = 0xBBBB; transparent = true };
       text = record { spacing = 0xFFFE; path = 3; rotation = 1; font = font.Byte 0x30AAA };
-      flags = record { picking = false; pick = true; trap = false };
+      flags = record { picking = false; pick = true; trap = false; switch = false };
       returns = record { addresses = 6 ∷ replicate 7 0; count = 1 };
     }
 unfolding machine recordAfter

@@ -2,14 +2,15 @@
 -- cites.
 use Prim.Native.Nat.{ℕ, _+_, _%_}
 use mathlib.Core.List.{List, [], _∷_, _++_}
-use mathlib.Core.Bool.{cond, _&&_}
+use mathlib.Core.Bool.{false, cond, _&&_, _||_}
 use lib.Dec.{ltb, leb, eqb}
 use lib.ListN.{getD, set, length, take, drop, replicate}
 use Rattle.model.specs.Ranges.{orElse}
-use Rattle.model.specs.Numbers.{statusRunning, refusePane, refuseEnd, refuseOdd, refuseStatus, refusePixel}
-use Rattle.model.specs.Numbers.{refuseRecord}
+use Rattle.model.specs.Numbers.{statusRunning, statusTrapped, refusePane, refuseEnd, refuseOdd, refuseStatus}
+use Rattle.model.specs.Numbers.{refusePixel, refuseRecord, refuseSwitch}
 use Rattle.model.specs.Bitmaps.{Geometry, Row, paneSurface, pixels}
-use Rattle.model.specs.Record.{Pane, fresh, noReturns, withProgress, withReturns}
+use Rattle.model.specs.Record.{Pane, fresh, noReturns, withProgress, withReturns, withStatus, withTrap}
+use Rattle.model.specs.Record.{withSwitch}
 use Rattle.model.specs.Runs.{Finish, runs}
 use Rattle.model.specs.Judge.{verdictOf}
 use Rattle.model.specs.Setup.{rowAt, paneAt, checks, paneBad}
@@ -24,7 +25,7 @@ pub record State : Type 0 where
   pub stores : List ℕ
 
 -- the calls on a pane, with their values: put (address, bytes), start (address), run (budget), look, pixel
--- (x,y), peek (address), clear, judge (address)
+-- (x,y), peek (address), clear, judge (address), switch (value)
 pub data Call : Type 0 where
   put : ℕ → List ℕ → Call
   start : ℕ → Call
@@ -34,6 +35,7 @@ pub data Call : Type 0 where
   peek : ℕ → Call
   clear : Call
   judge : ℕ → Call
+  switch : ℕ → Call
 
 -- "A call on a pane names its number"
 pub record Request : Type 0 where
@@ -62,8 +64,9 @@ unfoldable pub ownRefusal : Row → Pane → Call → ℕ
 -- "Put (address, bytes): 2 if they pass the store's end; nothing at the very end is accepted"
 ownRefusal r p (put a bytes) = cond (ltb (r .len) (a + length bytes)) refuseEnd 0
 ownRefusal r p (start a) = startRefusal r a
--- "Run (budget, 32 bits): 4 status isn't 1"
-ownRefusal r p (run budget) = cond (eqb (p .progress .status) statusRunning) 0 refuseStatus
+-- "Run (budget, 32 bits): 4 status isn't 1"; "Refusal 4 then covers statuses 0, 2 and 3" (02, A.7)
+ownRefusal r p (run budget) =
+    cond (eqb (p .progress .status) statusRunning || eqb (p .progress .status) statusTrapped) 0 refuseStatus
 -- "Look: none of its own"
 ownRefusal r p look = 0
 -- "Pixel (x,y from the pane's corner): 5 outside the pane"
@@ -74,6 +77,8 @@ ownRefusal r p (peek a) = cond (leb (r .len) a) refuseEnd 0
 ownRefusal r p clear = 0
 -- "The judge .. starts at an address in its store, refused as start refuses it" (02, A.2)
 ownRefusal r p (judge a) = startRefusal r a
+-- "A switch value other than 0 or 1 is refused with 33, after 12" (02, A.7)
+ownRefusal r p (switch v) = cond (ltb 1 v) refuseSwitch 0
 
 -- ## An accepted call on one pane: its record, the screen, and its own part of the stores
 
@@ -89,6 +94,18 @@ outcome a p screen store = record { reply = a; pane = p; screen = screen; store 
 -- "pointer at the address, status 1, fault 0, no return addresses, the rest kept"
 abbrev pub started : Pane → ℕ → Pane
 started p a = withReturns (withProgress p (record { status = statusRunning; fault = 0; pointer = a })) noReturns
+
+-- "run on status 4 clears the flag, makes the status 1, with budget 0 too, and goes on with the next command"
+-- (02, A.7): the record that a run begins with
+unfoldable pub released : Pane → Pane
+released p = cond (eqb (p .progress .status) statusTrapped) (withStatus (withTrap p false) statusRunning) p
+
+-- "Setting the switch", 0 off and 1 on; "Turning the switch off at status 4 makes the status 1 and keeps the flag"
+-- (02, A.7)
+unfoldable pub switched : Pane → ℕ → Pane
+switched p v =
+    withStatus (withSwitch p (eqb v 1))
+    (cond (eqb v 0 && eqb (p .progress .status) statusTrapped) statusRunning (p .progress .status))
 
 -- "else commands done, status, fault"; "Run is to report, besides its commands, the number of pixels drawn in it"
 -- (02, A.5)
@@ -118,7 +135,7 @@ unfoldable pub onPane : Geometry → Row → Pane → List ℕ → List ℕ → 
 -- "else they stand in the store from the address on, all else kept"
 onPane g r p screen store (put a bytes) = outcome (acceptedWith []) p screen (inPart store a (length bytes) bytes)
 onPane g r p screen store (start a) = outcome (acceptedWith []) (started p a) screen store
-onPane g r p screen store (run budget) = ran (runs g r budget p screen store)
+onPane g r p screen store (run budget) = ran (runs g r budget (released p) screen store)
 -- "Look, pixel and peek change nothing"
 onPane g r p screen store look = outcome (shown p) p screen store
 -- "else its value"
@@ -131,6 +148,7 @@ onPane g r p screen store clear = outcome (acceptedWith []) fresh screen store
 -- "starts at an address in its store, .. as from a cleared pane"; "It writes nothing" (02, A.2)
 onPane g r p screen store (judge a) =
     outcome (acceptedWith (verdictValues (verdictOf g r store (started fresh a)))) p screen store
+onPane g r p screen store (switch v) = outcome (acceptedWith []) (switched p v) screen store
 
 -- ## The console
 

@@ -15,6 +15,10 @@ statusEnded = 2
 abbrev pub statusFaulted : ℕ
 statusFaulted = 3
 
+-- "a CHAR that met a T .. leaves status 4" (02, A.7)
+abbrev pub statusTrapped : ℕ
+statusTrapped = 4
+
 -- ## Faults
 
 -- "An unknown opcode gives 20"
@@ -84,7 +88,7 @@ refuseEnd = 2
 abbrev pub refuseOdd : ℕ
 refuseOdd = 3
 
--- "4 status isn't 1"
+-- "4 status isn't 1"; "Refusal 4 then covers statuses 0, 2 and 3" (02, A.7)
 abbrev pub refuseStatus : ℕ
 refuseStatus = 4
 
@@ -119,3 +123,7 @@ refuseShared = 11
 -- "12 the pane record has .."
 abbrev pub refuseRecord : ℕ
 refuseRecord = 12
+
+-- "A switch value other than 0 or 1 is refused with 33" (02, A.7)
+abbrev pub refuseSwitch : ℕ
+refuseSwitch = 33

@@ -35,8 +35,8 @@ noReturns = record { addresses = replicate 8 0; count = 0 }
 
 -- "A fresh pane record: status 0, fault 0, pointer 0, position (0,0), no bitmap, clip all 0, both colours 0,
 -- operation "replace" (new bit = source bit), colour mask FFFF hex, pattern FFFF hex opaque, spacing 0, path
--- and rotation 0, no font, pick mode off, pick and trap flags 0, no return addresses"; and no scissor, there
--- being no bitmap (02, A.6)
+-- and rotation 0, no font, pick mode off, pick and trap flags 0, no return addresses"; no scissor, there being no
+-- bitmap (02, A.6); "a trap switch, off when fresh" (02, A.7)
 abbrev pub fresh : Pane
 fresh =
     record {
@@ -47,7 +47,7 @@ fresh =
       scissor = noScissor;
       pen = record { fore = 0; back = 0; op = replaceCode; mask = 0xFFFF; pattern = 0xFFFF; transparent = false };
       text = record { spacing = 0; path = 0; rotation = 0; font = font.Absent };
-      flags = record { picking = false; pick = false; trap = false };
+      flags = record { picking = false; pick = false; trap = false; switch = false };
       returns = noReturns;
     }
 
@@ -62,7 +62,7 @@ noPane =
       scissor = noScissor;
       pen = record { fore = 0; back = 0; op = 0; mask = 0; pattern = 0; transparent = false };
       text = record { spacing = 0; path = 0; rotation = 0; font = font.Absent };
-      flags = record { picking = false; pick = false; trap = false };
+      flags = record { picking = false; pick = false; trap = false; switch = false };
       returns = record { addresses = []; count = 0 };
     }
 
@@ -115,9 +115,12 @@ withReturns p x = paneOf (p .progress) (p .position) (p .bitmap) (p .clip) (p .s
 abbrev pub withPointer : Pane → ℕ → Pane
 withPointer p a = withProgress p (record { status = p .progress .status; fault = p .progress .fault; pointer = a })
 
+abbrev pub withStatus : Pane → ℕ → Pane
+withStatus p s = withProgress p (record { status = s; fault = p .progress .fault; pointer = p .progress .pointer })
+
 -- "makes status 2; the pointer stays"
 abbrev pub ended : Pane → Pane
-ended p = withProgress p (record { status = statusEnded; fault = p .progress .fault; pointer = p .progress .pointer })
+ended p = withStatus p statusEnded
 
 -- "A fault sets status 3 and its number; nothing else changes"
 abbrev pub faulted : Pane → ℕ → Pane
@@ -151,5 +154,14 @@ withOrientation p path rotation = withText p (textOf (p .text .spacing) path rot
 abbrev pub withFont : Pane → Font → Pane
 withFont p f = withText p (textOf (p .text .spacing) (p .text .path) (p .text .rotation) f)
 
+abbrev pub flagsOf : Bool → Bool → Bool → Bool → Flags
+flagsOf picking pick trap switch = record { picking = picking; pick = pick; trap = trap; switch = switch }
+
 abbrev pub withPicking : Pane → Bool → Bool → Pane
-withPicking p picking pick = withFlags p (record { picking = picking; pick = pick; trap = p .flags .trap })
+withPicking p picking pick = withFlags p (flagsOf picking pick (p .flags .trap) (p .flags .switch))
+
+abbrev pub withTrap : Pane → Bool → Pane
+withTrap p trap = withFlags p (flagsOf (p .flags .picking) (p .flags .pick) trap (p .flags .switch))
+
+abbrev pub withSwitch : Pane → Bool → Pane
+withSwitch p switch = withFlags p (flagsOf (p .flags .picking) (p .flags .pick) (p .flags .trap) switch)

@@ -5,11 +5,11 @@ use mathlib.Core.Bool.{Bool, false, cond, not, _||_, _&&_}
 use lib.Dec.{ltb, leb, eqb}
 use lib.ListN.{getD}
 use Rattle.model.specs.Ranges.{anyBelow, outOf}
-use Rattle.model.specs.Numbers.{statusFaulted, refuseGeometry, refuseScreen, refuseRectangle, refuseStore}
-use Rattle.model.specs.Numbers.{refuseOverlap, refuseShared}
+use Rattle.model.specs.Numbers.{statusFaulted, statusTrapped, refuseGeometry, refuseScreen, refuseRectangle}
+use Rattle.model.specs.Numbers.{refuseStore, refuseOverlap, refuseShared}
 use Rattle.model.specs.Words.{addressEnd}
 use Rattle.model.specs.Bitmaps.{Geometry, Row, isDepth, rowWords, ruleBroken, shareSpan}
-use Rattle.model.specs.Record.{Pane, Progress, Font, noPane}
+use Rattle.model.specs.Record.{Pane, Progress, Flags, Font, noPane}
 use Rattle.model.specs.declared.Font.the-variants as font
 use Rattle.model.specs.Faults.{clipOutside}
 use Rattle.model.specs.Scissor.{scissorStale}
@@ -76,12 +76,16 @@ checks g count rows screen stores =
 -- ## 12
 
 -- "a status above 3; a fault outside 20 to 29 at status 3 or not 0 elsewhere"; "refusal 12 admits fault 30 at
--- status 3" (02, A.1)
+-- status 3" (02, A.1), and "status 4 only .." (02, A.7)
 unfoldable pub progressBad : Progress → Bool
 progressBad p =
-    ltb statusFaulted (p .status)
+    ltb statusTrapped (p .status)
     || ((eqb (p .status) statusFaulted && outOf 20 30 (p .fault)) ||
     (not (eqb (p .status) statusFaulted) && not (eqb (p .fault) 0)))
+
+-- "Refusal 12 admits status 4 only with the switch on and the flag set" (02, A.7)
+unfoldable pub trapBad : ℕ → Flags → Bool
+trapBad status f = eqb status statusTrapped && not (f .switch && f .trap)
 
 -- "a font base odd or above 22 bits"
 abbrev pub baseBad : ℕ → Bool
@@ -93,14 +97,15 @@ fontBad (font.Word a) = baseBad a
 fontBad (font.Byte a) = baseBad a
 
 -- "12 the pane record has .. a bitmap breaking DEF_BITMAP's rule; a clip value outside the bitmap, or not 0
--- without one; ..; an operation above 15; a path or rotation above 3; over eight return addresses"; or a scissor
--- that isn't what would be computed afresh (02, A.6)
+-- without one; ..; an operation above 15; a path or rotation above 3; over eight return addresses"; a status 4
+-- without its cause (02, A.7); or a scissor that isn't what would be computed afresh (02, A.6)
 unfoldable pub paneBad : Geometry → Row → Pane → Bool
 paneBad g r p =
     progressBad (p .progress)
+    || (trapBad (p .progress .status) (p .flags)
     || (ruleBroken g r (p .bitmap)
     || (clipOutside (p .bitmap) (p .clip)
     || (fontBad (p .text .font)
     || (ltb 15 (p .pen .op)
     || (ltb 3 (p .text .path)
-    || (ltb 3 (p .text .rotation) || (ltb 8 (p .returns .count) || scissorStale r p)))))))
+    || (ltb 3 (p .text .rotation) || (ltb 8 (p .returns .count) || scissorStale r p))))))))

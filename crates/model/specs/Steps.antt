@@ -7,7 +7,9 @@ use lib.Dec.{ltb, eqb}
 use lib.ListN.{length}
 use Rattle.model.specs.Bitmaps.{Geometry, Row, Bitmap, Surface, surfaceOf}
 use Rattle.model.specs.declared.Bitmap.the-variants as bitmap
-use Rattle.model.specs.Record.{Pane, withPointer, withPosition, withFlags, ended, faulted}
+use Rattle.model.specs.Numbers.{statusTrapped}
+use Rattle.model.specs.Record.{Pane, Progress, Flags, flagsOf, withProgress, withPosition, withFlags, ended}
+use Rattle.model.specs.Record.{faulted}
 use Rattle.model.specs.Pixels.{Change, changes}
 use Rattle.model.specs.Dots.{Drawing, hits, changesOf}
 use Rattle.model.specs.Commands.{Command, Decoded, decode}
@@ -29,15 +31,25 @@ stopped q store = record { counted = 0; paint = 0; pane = q; store = store; draw
 
 -- ## A drawing
 
--- the record after a drawing with so many visible pixels: pointer, position, flags. "In pick mode .. the pick
--- flag becomes 1 if some pixel would have been drawn"; "T sets the trap flag; no command resets it"
+-- the flags after a drawing with so many visible pixels. "In pick mode .. the pick flag becomes 1 if some pixel
+-- would have been drawn"; "T sets the trap flag; no command resets it"
+abbrev pub drewFlags : Flags → Drawing → ℕ → Flags
+drewFlags f d n = flagsOf (f .picking) (f .pick || (f .picking && ltb 0 n)) (f .trap || d .trap) (f .switch)
+
+-- how far the list has come after a drawing: "With the switch on, a CHAR that met a T is finished, counted, and
+-- leaves status 4" (02, A.7); no other drawing meets a T
+abbrev pub drewProgress : Pane → ℕ → Drawing → Progress
+drewProgress p next d =
+    record {
+      status = cond (p .flags .switch && d .trap) statusTrapped (p .progress .status);
+      fault = p .progress .fault;
+      pointer = next;
+    }
+
+-- the record after a drawing: pointer and status, position, flags
 abbrev pub drewPane : Pane → ℕ → Drawing → ℕ → Pane
 drewPane p next d n =
-    withPointer (withPosition (withFlags p (record {
-      picking = p .flags .picking;
-      pick = p .flags .pick || (p .flags .picking && ltb 0 n);
-      trap = p .flags .trap || d .trap;
-    })) (d .position)) next
+    withProgress (withPosition (withFlags p (drewFlags (p .flags) d n)) (d .position)) (drewProgress p next d)
 
 -- changes to a bitmap are changes to the store or to the pane's pixels
 abbrev pub onStore : Geometry → Row → Bitmap → List Change → List ℕ → List ℕ

@@ -32,7 +32,7 @@ pub struct Frame {
     pub row: Row,
 }
 
-// "Status: 0 parked, 1 running, 2 ended, 3 faulted".
+// "Status: 0 parked, 1 running, 2 ended, 3 faulted"; 4 stopped after a CHAR that met a T (02, A.7).
 pub const STATUS_PARKED: u8 = 0;
 
 pub const STATUS_RUNNING: u8 = 1;
@@ -40,6 +40,8 @@ pub const STATUS_RUNNING: u8 = 1;
 pub const STATUS_ENDED: u8 = 2;
 
 pub const STATUS_FAULTED: u8 = 3;
+
+pub const STATUS_TRAPPED: u8 = 4;
 
 // How far a list has come.
 pub struct Progress {
@@ -112,11 +114,12 @@ pub struct Text {
     pub font: Font,
 }
 
-// Pick mode, and the pick and trap flags.
+// Pick mode, the pick and trap flags, and the trap switch (02, A.7): on, a CHAR that met a T stops the run.
 pub struct Flags {
     pub picking: bool,
     pub pick: bool,
     pub trap: bool,
+    pub switch: bool,
 }
 
 // The return addresses that CALL kept, the latest at count - 1.

@@ -4,14 +4,16 @@ pub mod settling; // settling.rt: the commands that draw nothing
 pub mod drawing; // drawing.rt: the drawing commands, on the pane's target
 
 ghost use mathlib.Core.Path.{_≡_};
-ghost use mathlib.Core.Bool.{cond};
+ghost use mathlib.Core.Bool.{cond, _&&_};
 ghost use lib.ListN.{length};
+ghost use Rattle.model.specs.Numbers.{statusTrapped};
 ghost use Rattle.perform.specs.Performing.{Allowed, Performs, quietly, drewOn};
 use canvas::Drawn;
 use drawing::draw;
 use model::Command;
 use model::Frame;
 use model::Pane;
+use model::STATUS_TRAPPED;
 use settling::settle;
 
 // What a command leaves beside both buffers: the record, and how many pixels it drew.
@@ -37,19 +39,31 @@ fn paint(picking: bool, hits: usize) -> u64
     hits as u64
 }
 
-// A drawing command leaves the pointer behind it, the position, and the flags: in pick mode the pick flag is
-// set if a pixel was visible.
+// The status after a drawing: 4 with the trap switch on where a T was met (02, A.7), or as before.
+fn status_after(p: Pane, trap: bool) -> u8
+    ensures { λ r. ⌜ r ≡ cond (p .flags .switch && trap) statusTrapped (p .progress .status) ⌝ }
+{
+    if p.flags.switch & trap {
+        return STATUS_TRAPPED;
+    }
+    p.progress.status
+}
+
+// A drawing command leaves the pointer behind it, the status, the position, and the flags: in pick mode the pick
+// flag is set if a pixel was visible.
 fn drew(p: Pane, next: u32, d: Drawn) -> Performed
     ensures { λ r. ⌜ r ≡ drewOn p next d ⌝ }
 {
     let pick = p.flags.pick | (p.flags.picking & (0 < d.hits));
     let trap = p.flags.trap | d.trap;
+    let status = status_after(p, d.trap);
     let position = d.position;
     let paint = paint(p.flags.picking, d.hits);
     let mut q = p;
     q.flags.pick = pick;
     q.flags.trap = trap;
     q.position = position;
+    q.progress.status = status;
     q.progress.pointer = next;
     Performed { pane: q, paint }
 }

@@ -26,13 +26,14 @@ use Rattle.model.specs.Record.{faulted}
 use Rattle.model.specs.Commands.{Addressed, fontAt, opcodeOf, fetch, decode}
 use Rattle.model.specs.Copies.{Rectangle, rectangleOf, blockBad, sharing}
 use Rattle.model.specs.Faults.{noBitmap, noFont, clipOutside, arrayBad, stringBad, descriptorsBad, sourceBitmap, copyFault, drawFault, contextOf, faultOf}
+use Rattle.model.specs.Dots.{hits}
 use Rattle.model.specs.Effects.{Effect, becomes, draws, fontOf, effectOf}
 use Rattle.model.specs.Steps.{Plan, planOf, attempted, obey, step}
 use Rattle.model.proofs.Decisions.{split, cond-ind, cond-none, cond-true, cond-false}
 use Rattle.refusals.specs.Good.{Good}
 use Rattle.bitmaps.proofs.BitmapLaws.{whole-clip}
 use Rattle.refusals.proofs.GoodLaws.{good-pointer, good-ended, good-faulted, good-position, good-bitmap, good-colours, good-operation}
-use Rattle.refusals.proofs.GoodLaws.{good-pattern, good-spacing, good-orientation, good-font, good-flags, good-returns, good-fontOf}
+use Rattle.refusals.proofs.GoodLaws.{good-pattern, good-spacing, good-orientation, good-font, good-picking, good-drew, good-returns, good-fontOf}
 use Rattle.decoder.proofs.DecodeLaws.{decode-addressed}
 
 -- ## Faults are 20 to 30
@@ -115,8 +116,8 @@ module _ (g : Geometry) (r : Row) (p : Pane) (good : Good g r p) (pixelOf : ℕ 
       (whole-clip a xmax ymax b)) next
   effect-good (command.DefColors fore back) h e = good-pointer (good-colours good fore back) next
   effect-good (command.DefLogicalOp mask code) h e = good-pointer (good-operation good (code % 16) mask (omega arith)) next
-  effect-good command.EnterPick h e = good-pointer (good-flags good _) next
-  effect-good command.ExitPick h e = good-pointer (good-flags good _) next
+  effect-good command.EnterPick h e = good-pointer (good-picking good true false) next
+  effect-good command.ExitPick h e = good-pointer (good-picking good false (p .flags .pick)) next
   effect-good (command.DefClipRect xmin ymin xmax ymax) h e =
       let a = cond-none (noBitmap (p .bitmap)) faultNoBitmap _ tt e in
       let b = cond-none (clipOutside (p .bitmap) (record { xmin = xmin; ymin = ymin; xmax = xmax; ymax = ymax })) faultClip 0 tt (a .1) in
@@ -136,20 +137,21 @@ module _ (g : Geometry) (r : Row) (p : Pane) (good : Good g r p) (pixelOf : ℕ 
   effect-good (command.BitBltM a xmax ymax b) h e = tt
   effect-good (command.ScanLines a n) h e = tt
 
-  plan-good : (e : Effect) → GoodEffect g r e → Good g r (planOf g r p store next e .pane)
+  plan-good : p .progress .status ≡ statusRunning → (e : Effect) → GoodEffect g r e → Good g r (planOf g r p store next e .pane)
   unfolding planOf GoodEffect
-  plan-good (becomes q) h = h
-  plan-good (draws d) h = good-pointer (good-position (good-flags good _) (d .position)) next
+  plan-good s (becomes q) h = h
+  plan-good s (draws d) h = good-drew good s next d (hits (surfaceOf g r (p .bitmap)) (p .clip) (d .dots))
 
   -- a command that is faulty is only recorded, and else done
   fault-good : (f : ℕ) → InRange f → (f ≡ 0 → ⊥) → Good g r (faulted p f)
   fault-good f (inl e) n = absurd (n e)
   fault-good f (inr h) n = good-faulted good f (h .0) (h .1)
 
-  attempted-good : (c : Command) → Addressed c → Good g r (attempted g r p pixelOf store next c (faultOf g r (contextOf p) store c) .pane)
+  attempted-good : p .progress .status ≡ statusRunning → (c : Command) → Addressed c
+      → Good g r (attempted g r p pixelOf store next c (faultOf g r (contextOf p) store c) .pane)
   unfolding attempted
-  attempted-good c h = cond-ind (λ (q : Plan). Good g r (q .pane)) (eqb (faultOf g r (contextOf p) store c) 0) _ _
-      (λ e. plan-good (effectOf g r p pixelOf store next c) (effect-good c h (eqb-true (faultOf g r (contextOf p) store c) 0 e)))
+  attempted-good s c h = cond-ind (λ (q : Plan). Good g r (q .pane)) (eqb (faultOf g r (contextOf p) store c) 0) _ _
+      (λ e. plan-good s (effectOf g r p pixelOf store next c) (effect-good c h (eqb-true (faultOf g r (contextOf p) store c) 0 e)))
       (λ e. fault-good (faultOf g r (contextOf p) store c) (fault-range g r p store c) (eqb-false (faultOf g r (contextOf p) store c) 0 e))
 
 -- ## A step
@@ -185,7 +187,7 @@ module _ (g : Geometry) (r : Row) (p : Pane) (good : Good g r p) (pixelOf : ℕ 
   unfolding obey
   obey-good s bytes End e = good-ended good s
   obey-good s bytes (Fault f) e = let h = decode-fault (r .len) store (p .progress .pointer) f e in good-faulted good f (h .0) (h .1)
-  obey-good s bytes (Do c next) e = attempted-good g r p good pixelOf store next c (decode-addressed (r .len) store (p .progress .pointer) c next bytes e)
+  obey-good s bytes (Do c next) e = attempted-good g r p good pixelOf store next s c (decode-addressed (r .len) store (p .progress .pointer) c next bytes e)
 
   -- what refusal 12 checks is kept by a step of a running pane
   pub step-good : p .progress .status ≡ statusRunning → ((k : ℕ) → getD store k 0 < 256) → Good g r (step g r p pixelOf store .pane)

@@ -7,14 +7,14 @@ use Rattle.model.specs.declared.Row.{Row}
 use Rattle.model.specs.declared.Progress.{Progress}
 use Rattle.model.specs.declared.Text.{Text}
 use Rattle.model.specs.declared.Pane.{Pane}
-use Rattle.model.specs.Numbers.{statusFaulted}
+use Rattle.model.specs.Numbers.{statusFaulted, statusTrapped}
 use Rattle.model.specs.Bitmaps.{ruleBroken}
 use Rattle.model.specs.Faults.{clipOutside}
 use Rattle.model.specs.Scissor.{Current}
-use Rattle.model.specs.Setup.{fontBad}
+use Rattle.model.specs.Setup.{trapBad, fontBad}
 
 pub record GoodProgress (p : Progress) : Type 0 where
-  pub status : p .status ≤ statusFaulted
+  pub status : p .status ≤ statusTrapped
   pub least : p .status ≡ statusFaulted → 20 ≤ p .fault
   pub most : p .status ≡ statusFaulted → p .fault ≤ 30
   pub none : (p .status ≡ statusFaulted → ⊥) → p .fault ≡ 0
@@ -26,6 +26,7 @@ pub record GoodText (t : Text) : Type 0 where
 
 pub record Good (g : Geometry) (r : Row) (p : Pane) : Type 0 where
   pub progress : GoodProgress (p .progress)
+  pub trap : trapBad (p .progress .status) (p .flags) ≡ false
   pub rule : ruleBroken g r (p .bitmap) ≡ false
   pub clip : clipOutside (p .bitmap) (p .clip) ≡ false
   pub op : p .pen .op ≤ 15

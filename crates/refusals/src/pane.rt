@@ -2,16 +2,18 @@
 use bitmaps::clip_outside;
 use bitmaps::rule_broken;
 use bitmaps::scissor_of;
+use model::Flags;
 use model::Font;
 use model::Frame;
 use model::Pane;
 use model::Progress;
 use model::Row;
 use model::STATUS_FAULTED;
+use model::STATUS_TRAPPED;
 use model::Scissor;
 ghost use mathlib.Core.Path.{_≡_};
 ghost use Rattle.model.specs.Scissor.{sameScissor, scissorStale};
-ghost use Rattle.model.specs.Setup.{progressBad, baseBad, fontBad, paneBad};
+ghost use Rattle.model.specs.Setup.{progressBad, trapBad, baseBad, fontBad, paneBad};
 ghost use Rattle.bitmaps.specs.Places.{Cornered};
 
 // "Addresses have 22 bits": each is below this.
@@ -21,9 +23,16 @@ const ADDRESS_END: u32 = 0x400000;
 fn progress_bad(p: Progress) -> bool
     ensures { λ r. ⌜ r ≡ progressBad p ⌝ }
 {
-    (p.status > STATUS_FAULTED)
+    (p.status > STATUS_TRAPPED)
         | (((p.status == STATUS_FAULTED) & ((p.fault < 20) | (p.fault > 30)))
             | (!(p.status == STATUS_FAULTED) & !(p.fault == 0)))
+}
+
+// Whether status 4 stands without its cause: it is admitted "only with the switch on and the flag set" (02, A.7).
+fn trap_bad(status: u8, flags: Flags) -> bool
+    ensures { λ r. ⌜ r ≡ trapBad status flags ⌝ }
+{
+    (status == STATUS_TRAPPED) & !(flags.switch & flags.trap)
 }
 
 // Whether a font base is odd or above 22 bits.
@@ -69,6 +78,7 @@ pub fn pane_bad(f: Frame, p: Pane) -> bool
     ensures { λ r. ⌜ r ≡ paneBad (f .geometry) (f .row) p ⌝ }
 {
     let progress = p.progress;
+    let flags = p.flags;
     let bitmap = p.bitmap;
     let clip = p.clip;
     let pen = p.pen;
@@ -77,11 +87,12 @@ pub fn pane_bad(f: Frame, p: Pane) -> bool
     let returns = p.returns;
     let row = f.row;
     progress_bad(progress)
-        | (rule_broken(f, bitmap)
-            | (clip_outside(bitmap, clip)
-                | (font_bad(font)
-                    | ((pen.op > 15)
-                        | ((text.path > 3)
-                            | ((text.rotation > 3)
-                                | ((returns.count > 8) | scissor_stale(row, p))))))))
+        | (trap_bad(progress.status, flags)
+            | (rule_broken(f, bitmap)
+                | (clip_outside(bitmap, clip)
+                    | (font_bad(font)
+                        | ((pen.op > 15)
+                            | ((text.path > 3)
+                                | ((text.rotation > 3)
+                                    | ((returns.count > 8) | scissor_stale(row, p)))))))))
 }

@@ -16,7 +16,7 @@ use Rattle.model.specs.declared.Verdict.the-variants.{Clean, Found}
 use Rattle.model.specs.Record.{fresh}
 use Rattle.model.specs.Judge.{verdictOf}
 use Rattle.model.specs.Replies.{acceptedWith, verdictValues}
-use Rattle.model.specs.Calls.{State, Answer, Call, Request, put, start, run, look, pixel, peek, clear, judge, onPane, exec, setUp}
+use Rattle.model.specs.Calls.{State, Answer, Call, Request, put, start, run, look, pixel, peek, clear, judge, switch, onPane, exec, setUp}
 use Rattle.model.specs.Calls.{rowOf, recordOf, storeOf, setupRefusal, refusal, started, withPane, accepted}
 use Rattle.model.proofs.Decisions.{cond-ind}
 use Rattle.script_fields.specs.Fields.{onFirst, pieces, lineFeed, linesOf, mostScript}
@@ -45,6 +45,7 @@ onPane-short g r p screen store (pixel x y) = omega arith
 onPane-short g r p screen store (peek a) = omega arith
 onPane-short g r p screen store clear = omega arith
 onPane-short g r p screen store (judge a) = verdict-short (verdictOf g r store (started fresh a))
+onPane-short g r p screen store (switch v) = omega arith
 
 exec-short : (s : State) (c : Request) → Short (exec s c .reply)
 unfolding exec accepted withPane

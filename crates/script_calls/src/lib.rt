@@ -1,4 +1,4 @@
-// The lines of the calls obeyed: w, g, r, l and x, and k, c and j of the language of `calls`. Each call is
+// The lines of the calls obeyed: w, g, r, l and x, and k, c, j and t of the language of `calls`. Each call is
 // lent the screen's rows and the stores, and nothing more.
 use call_common::Answered;
 use model::Console;
@@ -41,6 +41,7 @@ fn make_call(
         Call::Peek(address) => console::peek(screen, stores, console, pane, address),
         Call::Clear => console::clear(screen, stores, console, pane),
         Call::Judge(address) => console::judge(screen, stores, console, pane, address),
+        Call::Switch(value) => console::switch(screen, stores, console, pane, value),
     }
 }
 

@@ -73,9 +73,14 @@ letterClear = 99
 abbrev pub letterJudge : ℕ
 letterJudge = 106
 
+-- `t`, in the language of `calls` alone
+abbrev pub letterSwitch : ℕ
+letterSwitch = 116
+
 -- whether a language has a letter, if either has it
 abbrev pub has : Language → ℕ → Bool
-has language.Panes c = not (eqb c letterPeek || (eqb c letterClear || eqb c letterJudge))
+has language.Panes c =
+    not (eqb c letterPeek || (eqb c letterClear || (eqb c letterJudge || eqb c letterSwitch)))
 has language.Calls c = true
 
 -- ## Forms
@@ -151,6 +156,10 @@ clearForm = form 1 (decimalBase ∷ []) (λ v fs. asking letterClear (on (v 0) c
 abbrev pub judgeForm : Form
 judgeForm = form 2 paneAndAddress (λ v fs. asking letterJudge (on (v 0) (calls.judge (v 1))))
 
+-- switch (02, A.7), in the language of `calls`: `t,pane,value`
+abbrev pub switchForm : Form
+switchForm = form 2 (decimalBase ∷ decimalBase ∷ []) (λ v fs. asking letterSwitch (on (v 0) (calls.switch (v 1))))
+
 -- the forms, each by its letter
 abbrev pub forms : List (ℕ × Form)
 forms =
@@ -165,6 +174,7 @@ forms =
     ∷ (letterPeek, peekForm)
     ∷ (letterClear, clearForm)
     ∷ (letterJudge, judgeForm)
+    ∷ (letterSwitch, switchForm)
     ∷ []
 
 -- the form of a letter in a table; a line with any other letter is malformed
@@ -215,6 +225,7 @@ callSaid (call.Pixel x y) buffer = calls.pixel x y
 callSaid (call.Peek a) buffer = calls.peek a
 callSaid call.Clear buffer = calls.clear
 callSaid (call.Judge a) buffer = calls.judge a
+callSaid (call.Switch v) buffer = calls.switch v
 
 abbrev pub lineSaid : declared.Line → List ℕ → Line
 lineSaid (written.Screen g) buffer = sizing g

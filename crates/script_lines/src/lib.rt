@@ -22,7 +22,7 @@ const PANE: u8 = b'p';
 
 pub const OPEN: u8 = b'o';
 
-// The letters of the calls; those of peek, clear and judge are in the language of `calls` alone.
+// The letters of the calls; those of peek, clear, judge and switch are in the language of `calls` alone.
 const PUT: u8 = b'w';
 
 const START: u8 = b'g';
@@ -39,16 +39,18 @@ const CLEAR: u8 = b'c';
 
 const JUDGE: u8 = b'j';
 
-// The two languages: that of the program `panes`, and that of `calls`, which has the letters `k`, `c` and `j`
-// for peek, clear and judge besides.
+const SWITCH: u8 = b't';
+
+// The two languages: that of the program `panes`, and that of `calls`, which has the letters `k`, `c`, `j` and
+// `t` for peek, clear, judge and switch besides.
 pub enum Language {
     Panes,
     Calls,
 }
 
 // A call on a pane with its values: put (address, how many bytes), start (address), run (budget), look,
-// pixel (x, y), peek (address), clear, judge (address). The bytes of a put stand at the start of a buffer
-// beside it.
+// pixel (x, y), peek (address), clear, judge (address), switch (value). The bytes of a put stand at the start
+// of a buffer beside it.
 pub enum Call {
     Put(u32, u32),
     Start(u32),
@@ -58,6 +60,7 @@ pub enum Call {
     Peek(u32),
     Clear,
     Judge(u32),
+    Switch(u32),
 }
 
 // A line: the screen, a pane, set-up, a call under its letter on a pane, or one that is malformed.
@@ -105,7 +108,8 @@ fn has(language: Language, letter: u8) -> bool
     ensures { λ r. ⌜ r ≡ has language letter ⌝ }
 {
     match language {
-        Language::Panes => !((letter == PEEK) | ((letter == CLEAR) | (letter == JUDGE))),
+        Language::Panes => !((letter == PEEK)
+            | ((letter == CLEAR) | ((letter == JUDGE) | (letter == SWITCH)))),
         Language::Calls => true,
     }
 }
@@ -126,6 +130,7 @@ fn reading_of(letter: u8) -> Reading
         PEEK => read_as(2, PANE_AND_ADDRESS, 2),
         CLEAR => read_as(1, ALL_DECIMAL, 1),
         JUDGE => read_as(2, PANE_AND_ADDRESS, 2),
+        SWITCH => read_as(2, ALL_DECIMAL, 2),
         _ => read_as(0, ALL_DECIMAL, 0),
     }
 }
@@ -176,6 +181,7 @@ fn line_of(letter: u8, numbers: [u32; 5], line: &[u8], buffer: &mut [u8]) -> Lin
         PEEK => Line::Ask(letter, first, Call::Peek(second)),
         CLEAR => Line::Ask(letter, first, Call::Clear),
         JUDGE => Line::Ask(letter, first, Call::Judge(second)),
+        SWITCH => Line::Ask(letter, first, Call::Switch(second)),
         _ => Line::Malformed,
     }
 }

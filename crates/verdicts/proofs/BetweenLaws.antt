@@ -1,6 +1,8 @@
--- A verdict that is due stays so under every call but put, start and clear on its pane, and each run brings it nearer by its budget: over lists of calls.
+-- A verdict that is due stays so under every call on its pane but put, start, clear and the switch turned on, and each run brings it nearer by its budget:
+-- over lists of calls.
 use mathlib.Core.Path.{_≡_, refl, sym, ap, subst, _∙_}
 use mathlib.Core.Logic.{_≢_}
+use mathlib.Core.Bool.{Bool, false, not, _&&_}
 use mathlib.Core.List.{List, [], _∷_}
 use Prim.Native.Nat.{ℕ, zero, suc, _+_, _-_, _<_}
 use native.Mathlib.Omega.{arith}
@@ -13,14 +15,15 @@ use Rattle.model.specs.declared.Row.{Row}
 use Rattle.model.specs.declared.Pane.{Pane}
 use Rattle.model.specs.declared.Ran.{Ran}
 use Rattle.model.specs.declared.Verdict.{Verdict}
-use Rattle.model.specs.Numbers.{statusRunning}
+use Rattle.model.specs.Numbers.{statusRunning, statusTrapped}
 use Rattle.model.specs.Replies.{Response}
 use Rattle.model.specs.Runs.{Finish, runs}
-use Rattle.model.specs.Calls.{State, Call, put, start, run, look, pixel, peek, clear, judge, Request, on, part, ownRefusal, refusal, recordOf, onPane, exec}
-use Rattle.model.specs.Calls.{ranOf}
-use Rattle.model.proofs.Decisions.{split, cond-true}
+use Rattle.model.specs.Setup.{trapBad}
+use Rattle.model.specs.Calls.{State, Call, put, start, run, look, pixel, peek, clear, judge, switch, Request, on, part, ownRefusal, refusal, recordOf, onPane}
+use Rattle.model.specs.Calls.{released, ranOf, exec}
+use Rattle.model.proofs.Decisions.{split, and-true, cond-false}
 use Rattle.model.proofs.CallLaws.{exec-refused}
-use Rattle.model.proofs.QuietLaws.{Quiet, looks, sees, peeks, judges, exec-quiet}
+use Rattle.model.proofs.QuietLaws.{Quiet, looks, sees, peeks, judges, exec-quiet, exec-switched}
 use Rattle.refusals.specs.Good.{Good}
 use Rattle.isolation.specs.TwoRuns.{after}
 use Rattle.isolation.proofs.States.{Share, shareOf, On}
@@ -30,12 +33,28 @@ use Rattle.verdicts.proofs.DueLaws.{Due, DueAfter, runs-due}
 use Rattle.verdicts.proofs.DoneLaws.{refusal-own, PaneAfter, done, exec-done}
 
 module _ (g : Geometry) (k : ℕ) (r : Row) (store : List ℕ) (bytes : (i : ℕ) → getD store i 0 < 256) (v : Verdict) where
-  -- the pane is in a state, with that store, and the verdict is due once further budgets add to n
+  -- the pane is in a state, with that store and the trap switch off, and the verdict is due once further budgets add to n
   pub record Pending (n : ℕ) (s : State) : Type 0 where
     pub here : On g k r s
     pub same : part (s .stores) (r .start) (r .len) ≡ store
     pub due : Due g r store v n (recordOf s k)
+    pub off : recordOf s k .flags .switch ≡ false
     pub good : Good g r (recordOf s k)
+
+  -- ## The switch is off
+
+  module _ (n : ℕ) (s : State) (h : Pending n s) where
+    -- so the status is not 4, or refusal 12 would apply
+    untrapped : eqb (recordOf s k .progress .status) statusTrapped ≡ false
+    unfolding trapBad
+    untrapped =
+        sym (and-true (eqb (recordOf s k .progress .status) statusTrapped) _ (ap (λ (b : Bool). not (b && recordOf s k .flags .trap)) (h .off)))
+        ∙ h .good .trap
+
+    -- and a run begins with the record as it is
+    same-released : released (recordOf s k) ≡ recordOf s k
+    unfolding released
+    same-released = cond-false _ _ untrapped
 
   -- ## A call on another pane
 
@@ -48,6 +67,7 @@ module _ (g : Geometry) (k : ℕ) (r : Row) (store : List ℕ) (bytes : (i : ℕ
         here = exec-on g k r s (h .here) c;
         same = ap (λ (x : Share). x .store) e ∙ h .same;
         due = subst (λ (q : Pane). Due g r store v n q) (sym p) (h .due);
+        off = ap (λ (q : Pane). q .flags .switch) p ∙ h .off;
         good = subst (λ (q : Pane). Good g r q) (sym p) (h .good);
       }
 
@@ -55,11 +75,11 @@ module _ (g : Geometry) (k : ℕ) (r : Row) (store : List ℕ) (bytes : (i : ℕ
 
   module _ (n m : ℕ) (s : State) (h : Pending n s) where
     f : Finish
-    f = runs g r m (recordOf s k) (s .screen) (part (s .stores) (r .start) (r .len))
+    f = runs g r m (released (recordOf s k)) (s .screen) (part (s .stores) (r .start) (r .len))
 
     f-due : DueAfter g r store v (n - m) f × Good g r (f .pane)
     unfolding f
-    f-due = rw (h .same) (runs-due g r store v bytes m n (recordOf s k) (s .screen) (h .due) (h .good))
+    f-due = rw (h .same, same-released n s h) (runs-due g r store v bytes m n (recordOf s k) (s .screen) (h .due) (h .off) (h .good))
 
     f-after : refusal s (on k (run m)) ≡ 0 → PaneAfter g k r s (run m) (done g k r s (h .here) (run m))
     f-after e = exec-done g k r s (h .here) (run m) e
@@ -71,6 +91,7 @@ module _ (g : Geometry) (k : ℕ) (r : Row) (store : List ℕ) (bytes : (i : ℕ
       here = f-after e .here;
       same = f-after e .store ∙ f-due .0 .kept;
       due = subst (λ (q : Pane). Due g r store v (n - m) q) (sym (f-after e .pane)) (f-due .0 .due);
+      off = ap (λ (q : Pane). q .flags .switch) (f-after e .pane) ∙ f-due .0 .off;
       good = subst (λ (q : Pane). Good g r q) (sym (f-after e .pane)) (f-due .1);
     }
 
@@ -84,7 +105,8 @@ module _ (g : Geometry) (k : ℕ) (r : Row) (store : List ℕ) (bytes : (i : ℕ
     refused-run : (i : ℕ) → Due g r store v i (recordOf s k) → (refusal s (on k (run m)) ≡ 0 → ⊥) → i ≡ 0
     unfolding ownRefusal
     refused-run zero w d = refl
-    refused-run (suc i) w d = absurd (d (refusal-own g k r s (run m) (h .here) (h .good) ∙ cond-true _ _ (eq-eqb _ statusRunning (w .running))))
+    refused-run (suc i) w d =
+        absurd (d (refusal-own g k r s (run m) (h .here) (h .good) ∙ rw (eq-eqb (recordOf s k .progress .status) statusRunning (w .running))))
 
     pending-run : Pending (n - m) (exec s (on k (run m)) .state)
     pending-run = split (eqb (refusal s (on k (run m))) 0) (λ t. accepted-run (eqb-true _ 0 t))
@@ -114,6 +136,7 @@ module _ (g : Geometry) (k : ℕ) (r : Row) (store : List ℕ) (bytes : (i : ℕ
   pending-between n s h (peek a) b = pending-quiet n s h (peek a) (peeks a)
   pending-between n s h clear b = absurd b
   pending-between n s h (judge a) b = pending-quiet n s h (judge a) (judges a)
+  pending-between n s h (switch x) b = rw (exec-switched x b s k (h .off) (untrapped n s h)) (simp unary-clauses h)
 
   pending-own : (n : ℕ) (s : State) → Pending n s → (c : Request) → c .number ≡ k → Between (c .call) → Pending (n - budget (c .call)) (exec s c .state)
   pending-own n s h c e b =

@@ -1,5 +1,5 @@
 -- What a verdict ahead means for runs: it is due once the budgets add to a number, one more than the commands before it. A run of m brings it m nearer, and
--- leaves the store as it was.
+-- leaves the store as it was. The trap switch is off all along: no run stops at a T.
 use mathlib.Core.Path.{_≡_, refl, sym, subst, _∙_}
 use mathlib.Core.Bool.{false}
 use mathlib.Core.List.{List}
@@ -53,14 +53,15 @@ module _ (g : Geometry) (r : Row) (store : List ℕ) (v : Verdict) where
   Due zero p = Reached v p
   Due (suc n) p = Going n p
 
-  -- .. which holds of what a step or a run leaves, and the store is as it was
+  -- .. which holds of what a step or a run leaves; the trap switch is still off, and the store as it was
   pub record DueAfter (n : ℕ) (f : Finish) : Type 0 where
     pub due : Due n (f .pane)
+    pub off : f .pane .flags .switch ≡ false
     pub kept : f .store ≡ store
 
   -- ## A step
 
-  module _ (p : Pane) (screen : List ℕ) (running : p .progress .status ≡ statusRunning) (apart : NotStore (p .bitmap)) where
+  module _ (p : Pane) (screen : List ℕ) (running : p .progress .status ≡ statusRunning) (apart : NotStore (p .bitmap)) (off : p .flags .switch ≡ false) where
     step-on : (n : ℕ) (c : Command) (next : ℕ) → decode (r .len) store (p .progress .pointer) ≡ Do c next → judgedFault g r (contextOf p) store c ≡ 0
         → Ahead g r store v n (changed (standingOf p) next (roleOf c)) → DueAfter (suc n) (stepped g r p screen store)
     step-on n c next e z w =
@@ -69,24 +70,25 @@ module _ (g : Geometry) (r : Row) (store : List ℕ) (v : Verdict) where
         subst (λ (f : Finish). DueAfter (suc n) f) (sym (step-done g r p screen store c next e (none-fault g r p store c z)))
         (record {
           due = record {
-            running = k .status ∙ running;
+            running = k .unstopped off .0 ∙ running;
             apart = subst (λ (s : Standing). NotStore (s .bitmap)) (sym stands) (changed-apart (standingOf p) next (roleOf c) apart);
             ahead = subst (λ (s : Standing). Ahead g r store v n s) (sym stands) w;
           };
+          off = k .unstopped off .1;
           kept = plan-store g r p store next _ apart;
         })
 
     step-ahead : (n : ℕ) → Ahead g r store v n (standingOf p) → DueAfter n (stepped g r p screen store)
     step-ahead n (ends rest e h) = subst (λ (f : Finish). DueAfter 0 f) (sym (step-end g r p screen store e))
-        (record { due = subst (λ (x : Verdict). Reached x (ended p)) (sym h) refl; kept = refl })
+        (record { due = subst (λ (x : Verdict). Reached x (ended p)) (sym h) refl; off = off; kept = refl })
     step-ahead n (fetches f e h) = subst (λ (x : Finish). DueAfter 0 x) (sym (step-fetch g r p screen store f e))
-        (record { due = subst (λ (x : Verdict). Reached x (faulted p f)) (sym h) refl; kept = refl })
+        (record { due = subst (λ (x : Verdict). Reached x (faulted p f)) (sym h) refl; off = off; kept = refl })
     step-ahead n (faults c next e z h) = subst (λ (f : Finish). DueAfter 0 f) (sym (step-fault g r p screen store c next e z))
-        (record { due = subst (λ (x : Verdict). Reached x (faulted p (faultOf g r (contextOf p) store c))) (sym h) refl; kept = refl })
+        (record { due = subst (λ (x : Verdict). Reached x (faulted p (faultOf g r (contextOf p) store c))) (sym h) refl; off = off; kept = refl })
     step-ahead n (goes {n = k} c next e z w) = step-on k c next e z w
 
-  step-due : (n : ℕ) (p : Pane) (screen : List ℕ) → Going n p → DueAfter n (stepped g r p screen store)
-  step-due n p screen w = step-ahead p screen (w .running) (w .apart) n (w .ahead)
+  step-due : (n : ℕ) (p : Pane) (screen : List ℕ) → Going n p → p .flags .switch ≡ false → DueAfter n (stepped g r p screen store)
+  step-due n p screen w o = step-ahead p screen (w .running) (w .apart) o n (w .ahead)
 
   -- ## A run
 
@@ -96,15 +98,15 @@ module _ (g : Geometry) (r : Row) (store : List ℕ) (v : Verdict) where
     stepped-good p screen e h = step-good g r p h (pixels (paneSurface g r) screen) store e bytes
 
     -- a run of m brings it m nearer, and what refusal 12 checks is kept
-    pub runs-due : (m n : ℕ) (p : Pane) (screen : List ℕ) → Due n p → Good g r p
+    pub runs-due : (m n : ℕ) (p : Pane) (screen : List ℕ) → Due n p → p .flags .switch ≡ false → Good g r p
         → DueAfter (n - m) (runs g r m p screen store) × Good g r (runs g r m p screen store .pane)
     unfolding runs follow
-    runs-due zero n p screen h q = simp unary-clauses (record { due = h; kept = refl }, q)
-    runs-due (suc m) zero p screen h q =
-        rw (reached-still v p h, let e : 0 - suc m ≡ 0 = omega arith in e) (record { due = h; kept = refl }, q)
-    runs-due (suc m) (suc n) p screen h q =
+    runs-due zero n p screen h o q = simp unary-clauses (record { due = h; off = o; kept = refl }, q)
+    runs-due (suc m) zero p screen h o q =
+        rw (reached-still v p h, let e : 0 - suc m ≡ 0 = omega arith in e) (record { due = h; off = o; kept = refl }, q)
+    runs-due (suc m) (suc n) p screen h o q =
         let f : Finish = stepped g r p screen store in
-        let w = step-due n p screen h in
-        let z = runs-due m n (f .pane) (f .screen) (w .due) (stepped-good p screen (h .running) q) in
+        let w = step-due n p screen h o in
+        let z = runs-due m n (f .pane) (f .screen) (w .due) (w .off) (stepped-good p screen (h .running) q) in
         rw (eq-eqb (p .progress .status) statusRunning (h .running), w .kept, let e : suc n - suc m ≡ n - m = omega arith in e)
-        (record { due = z .0 .due; kept = z .0 .kept }, z .1)
+        (record { due = z .0 .due; off = z .0 .off; kept = z .0 .kept }, z .1)

@@ -101,6 +101,7 @@ module _ (s : State) (k a : ℕ) (lent : Lent s) where
           same = begins .store;
           due = subst (λ (p : Pane). Due g r (storeOf s k) v (suc (w .commands)) p) (sym (begins .pane))
               (record { running = refl; apart = tt; ahead = w .ahead });
+          off = ap (λ (p : Pane). p .flags .switch) (begins .pane);
           good = begins .good;
         })
         b

@@ -6,7 +6,7 @@ use mathlib.Core.List.{List, [], _∷_, _++_}
 use Prim.Native.Nat.{ℕ}
 use lib.ListN.{length}
 use Rattle.model.specs.Replies.{Response, refusedWith, acceptedWith, natural, address}
-use Rattle.model.specs.Calls.{State, Request, on, start, run, look, clear, judge, exec, setUp}
+use Rattle.model.specs.Calls.{State, Request, on, start, run, look, clear, judge, switch, exec, setUp}
 use Rattle.isolation.specs.TwoRuns.{after, repliesOn}
 
 -- ## The store
@@ -123,11 +123,11 @@ judgeReplies =
 
 -- ## What runs then do
 
--- the page, with the judge between
+-- the page, with the judge and the switch between
 abbrev pub pageCalls : List Request
 pageCalls =
-    on 0 clear ∷ on 0 (start 0) ∷ on 0 (run 5) ∷ on 0 (judge 0x38) ∷ on 0 (run 7) ∷ on 0 (run 1) ∷ on 0 (run 1)
-    ∷ on 0 look ∷ []
+    on 0 clear ∷ on 0 (start 0) ∷ on 0 (run 5) ∷ on 0 (judge 0x38) ∷ on 0 (switch 0) ∷ on 0 (switch 2) ∷ on 0 (run 7)
+    ∷ on 0 (run 1) ∷ on 0 (run 1) ∷ on 0 look ∷ []
 
 -- the pair
 abbrev pub pairCalls : List Request
@@ -146,10 +146,10 @@ lookReply status fault pointer x =
 
 abbrev pub pageReplies : List Response
 pageReplies =
-    -- budgets that add to 12 leave it running, its two POINTs drawn by the second run; one more ends it, and then
-    -- no run is accepted
-    acceptedWith [] ∷ acceptedWith [] ∷ ranReply 5 1 0 0 ∷ foundReply 31 0x3A ∷ ranReply 7 1 0 2 ∷ ranReply 0 2 0 0
-    ∷ refusedWith 4 ∷ lookReply 2 0 0x0C 2 ∷ []
+    -- the switch is left off, and 2 refused; budgets that add to 12 leave the page running, its two POINTs drawn by
+    -- the second run; one more ends it, and then no run is accepted
+    acceptedWith [] ∷ acceptedWith [] ∷ ranReply 5 1 0 0 ∷ foundReply 31 0x3A ∷ acceptedWith [] ∷ refusedWith 33
+    ∷ ranReply 7 1 0 2 ∷ ranReply 0 2 0 0 ∷ refusedWith 4 ∷ lookReply 2 0 0x0C 2 ∷ []
 
 abbrev pub pairReplies : List Response
 pairReplies =

@@ -2,6 +2,8 @@
 -- every call's contract cites: ""Clean" means that runs of any budgets from there, with no set-up, put, start or
 -- clear between, never fault, and reach status 2 once the budgets add to more than the commands walked.
 -- Otherwise the accepted reply names the first fault the run would meet and its address. It writes nothing."
+-- "The judge's "clean" is meant with the switch off" (02, A.7): `begun` leaves it off, for clear makes the record
+-- fresh, and no call between turns it on.
 use mathlib.Core.Path.{_≡_}
 use mathlib.Core.Logic.{_≢_}
 use mathlib.Core.Bool.{cond}
@@ -16,14 +18,14 @@ use Rattle.model.specs.declared.Verdict.the-variants.{Clean, Found}
 use Rattle.model.specs.Numbers.{statusRunning, statusEnded, statusFaulted, faultBarred, faultLong}
 use Rattle.model.specs.Replies.{Response, refusedWith, acceptedWith, ranValues, verdictValues}
 use Rattle.model.specs.Judge.{mostWalked}
-use Rattle.model.specs.Calls.{State, Call, put, start, run, look, pixel, peek, clear, judge, Request, on, refusal}
-use Rattle.model.specs.Calls.{recordOf, exec}
+use Rattle.model.specs.Calls.{State, Call, put, start, run, look, pixel, peek, clear, judge, switch, Request, on}
+use Rattle.model.specs.Calls.{refusal, recordOf, exec}
 use Rattle.isolation.specs.TwoRuns.{after}
 
 -- ## Lists of calls
 
--- "with no set-up, put, start or clear between": what a call on the pane may be. Calls on other panes may be
--- any, and a set-up is no call of such a list
+-- "with no set-up, put, start or clear between", and "with the switch off" (02, A.7): what a call on the pane may
+-- be. Calls on other panes may be any, and a set-up is no call of such a list
 abbrev pub Between : Call → Type 0
 Between (put a bytes) = ⊥
 Between (start a) = ⊥
@@ -33,6 +35,8 @@ Between (pixel x y) = Unit {0}
 Between (peek a) = Unit {0}
 Between clear = ⊥
 Between (judge a) = Unit {0}
+-- 1 alone turns the switch on: 0 leaves it off, and all else is refused
+Between (switch v) = v ≢ 1
 
 abbrev pub AllBetween : ℕ → List Request → Type 0
 AllBetween k [] = Unit {0}
@@ -48,6 +52,7 @@ budget (pixel x y) = 0
 budget (peek a) = 0
 budget clear = 0
 budget (judge a) = 0
+budget (switch v) = 0
 
 unfoldable pub budgets : ℕ → List Request → ℕ
 budgets k [] = 0

@@ -1,4 +1,5 @@
-//! `calls`: the script program with letters for peek, clear and the judge.
+//! `calls`: the script program with letters for peek, clear, the judge and the
+//! trap switch.
 
 use reference::script::{run_program, Language};
 

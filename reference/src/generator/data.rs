@@ -61,8 +61,9 @@ pub struct Data {
 }
 
 impl Data {
-    /// Makes the data for a pane of this size.
-    pub fn make(dice: &mut Dice, start: u32, width: i64, height: i64) -> Data {
+    /// Makes the data for a pane of this size. Some glyphs have a T; where T's
+    /// matter, mostly one has and one has not.
+    pub fn make(dice: &mut Dice, start: u32, width: i64, height: i64, traps: bool) -> Data {
         let mut data = Data {
             start,
             bytes: Vec::new(),
@@ -75,7 +76,7 @@ impl Data {
             far_pairs: Stretch::default(),
             triples: Vec::new(),
         };
-        let glyphs = data.add_font(dice);
+        let glyphs = data.add_font(dice, traps);
         data.add_strings(dice, &glyphs);
         for _ in 0..dice.between(1, 2) {
             let pairs = some_pairs(dice, width, height);
@@ -106,7 +107,7 @@ impl Data {
 
     /// The offset table at the font's base, its last word a bad one, and then
     /// the glyphs.
-    fn add_font(&mut self, dice: &mut Dice) -> Vec<Glyph> {
+    fn add_font(&mut self, dice: &mut Dice, traps: bool) -> Vec<Glyph> {
         let count = dice.between(2, 4) as u16;
         let mut glyphs: Vec<Vec<u16>> = Vec::new();
         for _ in 0..count {
@@ -142,6 +143,11 @@ impl Data {
                 words.push(row & ignored);
             }
             glyphs.push(words);
+        }
+        if traps && dice.chance(85) {
+            let index = dice.between(0, i64::from(count) - 2) as usize;
+            glyphs[index][0] |= 0x8000;
+            glyphs[index + 1][0] &= 0x7FFF;
         }
         let mut found = Vec::new();
         let mut offset = count + 1;

@@ -16,7 +16,7 @@ impl Judging {
     /// What will be done with the next list. Prepares the plan for writing it.
     pub fn choose(dice: &mut Dice, plan: &mut Plan) -> Judging {
         let judged = dice.chance(50);
-        let cleared = judged && dice.chance(65);
+        let cleared = judged && dice.chance(72);
         // Where the list does not know of it, CHAR may find no font.
         if cleared && dice.chance(80) {
             plan.forget();

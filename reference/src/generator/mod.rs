@@ -14,5 +14,7 @@ mod peeks;
 mod scripts;
 mod seasoning;
 pub mod stats;
+mod stops;
+mod traps;
 
 pub use scripts::script;

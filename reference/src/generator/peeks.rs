@@ -32,6 +32,7 @@ pub fn clear_lines(dice: &mut Dice, plan: &mut Plan) -> Vec<String> {
         return Vec::new();
     }
     plan.goes_on = false;
+    plan.switch = false;
     // Where the lists that follow do not know of it, CHAR may find no font.
     if dice.chance(60) {
         plan.forget();
@@ -59,15 +60,16 @@ pub fn clear_lines(dice: &mut Dice, plan: &mut Plan) -> Vec<String> {
 pub fn any_call(dice: &mut Dice) -> String {
     dice.pick(&[
         "k,0,0", "k,0,1", "k,1,3", "k,7,0", "c,0", "c,1", "c,7", "j,0,0", "j,0,10", "j,1,2",
-        "j,7,0",
+        "j,7,0", "t,0,0", "t,0,1", "t,1,1", "t,7,0", "t,0,2",
     ])
     .to_string()
 }
 
-/// A call that is refused or malformed, or a clear in the midst of other calls.
+/// A call that is refused or malformed, or a clear or the trap switch in the
+/// midst of other calls.
 pub fn odd_call(dice: &mut Dice, panes: i64) -> String {
     let pane = dice.between(0, panes - 1);
-    match dice.weighted(&[25, 20, 10, 10, 15, 20]) {
+    match dice.weighted(&[30, 20, 10, 10, 15, 25, 20]) {
         0 => {
             let other = dice.pick(&[panes, panes + 1, 7, 8, 255, 4294967295]);
             dice.pick(&[
@@ -78,6 +80,9 @@ pub fn odd_call(dice: &mut Dice, panes: i64) -> String {
                 "c,#",
                 "j,#,0",
                 "j,#,1",
+                "t,#,0",
+                "t,#,1",
+                "t,#,2",
             ])
             .replace('#', &other.to_string())
         }
@@ -95,11 +100,16 @@ pub fn odd_call(dice: &mut Dice, panes: i64) -> String {
             let good = any_call(dice);
             bent_line(dice, &good)
         }
-        _ => strange_call(dice),
+        5 => strange_call(dice),
+        _ => format!(
+            "t,{}{pane},{}",
+            dice.pick(&["", "", "0"]),
+            dice.pick(&["0", "1", "01", "00", "2", "3", "10", "256", "4294967295"])
+        ),
     }
 }
 
-/// A peek, clear or judge that is malformed.
+/// A peek, clear, judge or trap switch that is malformed.
 pub fn strange_call(dice: &mut Dice) -> String {
     dice.pick(&[
         "k",
@@ -140,6 +150,22 @@ pub fn strange_call(dice: &mut Dice) -> String {
         "j,0,100000000",
         "j,4294967296,0",
         "J,0,0",
+        "t",
+        "t,",
+        "t,0",
+        "t,0,",
+        "t,,1",
+        "t,0,a",
+        "t,0,1,",
+        "t,0,1,0",
+        "t,0,-1",
+        "t,0,+1",
+        "t,0, 1",
+        "t,a,1",
+        "t,0,4294967296",
+        "t,0,4294967297",
+        "t,4294967296,1",
+        "T,0,1",
     ])
     .to_string()
 }

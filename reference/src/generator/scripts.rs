@@ -5,6 +5,7 @@ use super::judges::{cut_short_lines, judge_between, judge_lines, tower_lines, Ju
 use super::lists::{Ending, List, Plan, MOST_WORDS};
 use super::peeks::{any_call, clear_lines, peek_lines};
 use super::seasoning::{nonsense, refused, season, strange_line};
+use super::traps::{resume_lines, switch_among, switch_line};
 use crate::script::{Language, LONGEST_SCRIPT};
 use std::fmt::Write;
 
@@ -243,6 +244,13 @@ fn pane_groups(
         };
         // To the judge a list without a bitmap of its own is fault 23.
         plan.goes_on &= !judging.judged;
+        plan.switch &= !judging.cleared;
+        let switching = match language {
+            Language::Panes => None,
+            // What the judge says is meant with the switch off.
+            Language::Calls if judging.cleared && dice.chance(80) => None,
+            Language::Calls => switch_line(dice, plan),
+        };
         let most = ((room - 60) / 4).min(dice.between(50, 190) as usize);
         let ending = match dice.weighted(&[42, 36, 8, 4, 10]) {
             0 => Ending::End,
@@ -259,8 +267,12 @@ fn pane_groups(
         let mut running = run_lines(dice, number, &list, ending);
         if language == Language::Calls {
             judge_between(dice, number, list.start, &mut running);
+            switch_among(dice, switching, &mut running);
         }
         lines.extend(running);
+        if plan.switch {
+            lines.extend(resume_lines(dice, plan, &list));
+        }
         let left = room.saturating_sub(size(&lines));
         if matches!(ending, Ending::Fault(22 | 24)) && left > 400 && plan.words_left() > 80 {
             lines.extend(rest_lines(dice, plan));
@@ -312,6 +324,7 @@ fn usual(dice: &mut Dice, language: Language) -> Vec<String> {
             place.height,
             depth,
             *length as u32,
+            language == Language::Calls,
         );
         plans.push(plan);
     }

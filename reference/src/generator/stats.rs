@@ -1,15 +1,17 @@
 //! What random scripts do: how often each command is done, each fault and each
 //! refusal comes, what POLYLINEs are like, by which clips the pane is drawn on,
-//! and which wrong rules for the pixels of a run they tell from the right one.
+//! what they do with the trap switch, and which wrong rules for the pixels of a
+//! run they tell from the right one.
 
 use super::clips::Clips;
-use super::paint::{Paint, Watch};
+use super::paint::{record_of, Paint, Watch};
 use super::script;
+use super::stops::Stops;
 use crate::bitmaps::{Bitmap, PANE_ADDRESS};
 use crate::calls::lend;
 use crate::decode::Command;
 use crate::judge::MOST_WALKED;
-use crate::record::{PaneRecord, RUNNING};
+use crate::record::{PaneRecord, RUNNING, TRAPPED};
 use crate::script::{decimal, hex, lines_of, Language, Session, LARGEST_STORES};
 use crate::step::{array, step, Outcome};
 use std::collections::BTreeMap;
@@ -28,6 +30,8 @@ pub struct Stats {
     pub polylines: BTreeMap<&'static str, u64>,
     /// Scripts with a drawing on the pane, by what its clip was.
     pub clips: BTreeMap<&'static str, u64>,
+    /// Scripts in which this was done with the trap switch.
+    pub stops: BTreeMap<&'static str, u64>,
     /// Scripts in which some run would report other pixels by a wrong rule.
     pub wrong_pixels: BTreeMap<&'static str, u64>,
     pub faults: BTreeMap<u32, u64>,
@@ -75,10 +79,17 @@ impl Stats {
         let mut before: Vec<&[u8]> = Vec::new();
         let mut paint = Paint::default();
         let mut clips = Clips::default();
+        let mut stops = Stops::default();
         for line in lines_of(text) {
             self.lines += 1;
-            done += self.watch_run(&session, line, &mut paint, &mut clips);
+            let mut watches = Watches {
+                paint: &mut paint,
+                clips: &mut clips,
+                stops: &mut stops,
+            };
+            done += self.watch_run(&session, line, &mut watches);
             let stores = session.stores.clone();
+            let named = named(&session, line).map(|pane| (pane, record_of(&session, pane)));
             let Some(reply) = session.line(line) else {
                 self.malformed += 1;
                 continue;
@@ -90,9 +101,14 @@ impl Stats {
                 .and_then(|field| field.parse().ok())
                 .unwrap_or(0);
             *self.refusals.entry((letter, number)).or_default() += 1;
-            if let Some(pane) = started(&reply, line) {
-                paint.since_start[pane] = 0;
-                clips.start(pane);
+            if let Some((pane, record)) = named.filter(|_| number == 0) {
+                if letter == 'g' {
+                    paint.since_start[pane] = 0;
+                    clips.start(pane);
+                }
+                let value = line.rsplit(|byte| *byte == b',').next().unwrap_or_default();
+                let after = record_of(&session, pane);
+                stops.call(letter, value, pane, [&record, &after]);
             }
             if letter == 'x' && number == 0 {
                 self.pixels += 1;
@@ -124,6 +140,9 @@ impl Stats {
         for what in clips.met {
             *self.clips.entry(what).or_default() += 1;
         }
+        for what in stops.met {
+            *self.stops.entry(what).or_default() += 1;
+        }
         for rule in paint.told {
             *self.wrong_pixels.entry(rule).or_default() += 1;
         }
@@ -136,13 +155,7 @@ impl Stats {
     }
 
     /// If the line is a run, does it on a copy and counts each command.
-    fn watch_run(
-        &mut self,
-        session: &Session,
-        line: &[u8],
-        paint: &mut Paint,
-        clips: &mut Clips,
-    ) -> u64 {
+    fn watch_run(&mut self, session: &Session, line: &[u8], watches: &mut Watches) -> u64 {
         let fields: Vec<&[u8]> = line.split(|byte| *byte == b',').collect();
         let [b"r", pane, budget] = fields[..] else {
             return 0;
@@ -151,13 +164,15 @@ impl Stats {
             return 0;
         };
         let mut copy = session.clone();
-        let Some(console) = &session.console else {
+        let Some(console) = copy.console.as_mut() else {
             return 0;
         };
-        if pane >= console.row_count || console.panes[pane as usize].status != RUNNING {
+        let runs = |record: &PaneRecord| matches!(record.status, RUNNING | TRAPPED);
+        if pane >= console.row_count || !runs(&console.panes[pane as usize]) {
             return 0;
         }
-        let mut watch = Watch::new(paint, pane as usize);
+        console.panes[pane as usize].resume();
+        let mut watch = Watch::new(watches.paint, pane as usize);
         let mut done = 0;
         while done < u64::from(budget) {
             let before = copy.clone();
@@ -180,7 +195,10 @@ impl Stats {
                 _ => Vec::new(),
             };
             watch.command(&before, outcome);
-            clips.command(&before, pane as usize, outcome);
+            watches.clips.command(&before, pane as usize, outcome);
+            let record = lent.record.clone();
+            let stops = &mut *watches.stops;
+            stops.command(&before, pane as usize, outcome, &record);
             match outcome {
                 Outcome::Done { command, .. } => {
                     let changed =
@@ -195,6 +213,9 @@ impl Stats {
                     entry.0 += 1;
                     entry.1 += u64::from(changed);
                     done += 1;
+                    if record.status == TRAPPED {
+                        break;
+                    }
                 }
                 Outcome::Ended => {
                     self.ended += 1;
@@ -263,6 +284,12 @@ impl Stats {
         for (what, count) in &self.clips {
             text.push(format!("  {what}: {count}"));
         }
+        if !self.stops.is_empty() {
+            text.push("trap switch: scripts that have it".to_string());
+        }
+        for (what, count) in &self.stops {
+            text.push(format!("  {what}: {count}"));
+        }
         text.push("wrong rule for a run's pixels: scripts that tell it".to_string());
         for (rule, count) in &self.wrong_pixels {
             text.push(format!("  {rule}: {count}"));
@@ -287,6 +314,13 @@ impl Stats {
     }
 }
 
+/// What is watched in the runs of a script.
+struct Watches<'a> {
+    paint: &'a mut Paint,
+    clips: &'a mut Clips,
+    stops: &'a mut Stops,
+}
+
 /// Whether a line runs a pane, after three that judge an address, clear the
 /// pane and start there.
 fn follows_judge(before: &[&[u8]], line: &[u8]) -> bool {
@@ -299,12 +333,12 @@ fn follows_judge(before: &[&[u8]], line: &[u8]) -> bool {
     judged == started && clear.starts_with(b"c") && line.starts_with(b"r")
 }
 
-/// The pane of an accepted start.
-fn started(reply: &str, line: &[u8]) -> Option<usize> {
-    let pane = line.split(|byte| *byte == b',').nth(1)?;
-    (reply == "g,0")
-        .then(|| decimal(pane))?
-        .map(|pane| pane as usize)
+/// The pane that a line's second field names, if there is one.
+fn named(session: &Session, line: &[u8]) -> Option<usize> {
+    let field = line.split(|byte| *byte == b',').nth(1)?;
+    let pane = decimal(field)?;
+    let console = session.console.as_ref()?;
+    (pane < console.row_count).then_some(pane as usize)
 }
 
 /// Where the byte of an accepted peek stands in the stores.

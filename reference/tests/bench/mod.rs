@@ -114,6 +114,11 @@ impl Bench {
         calls::judge(&self.console, &self.screen, &self.stores, pane, address)
     }
 
+    pub fn switch(&mut self, pane: u32, value: u32) -> Result<(), Refusal> {
+        let console = &mut self.console;
+        calls::switch(console, &self.screen, &self.stores, pane, value)
+    }
+
     pub fn record(&mut self) -> &mut PaneRecord {
         &mut self.console.panes[0]
     }

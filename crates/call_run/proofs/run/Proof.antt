@@ -22,33 +22,35 @@ admitted c = c .before .before .before
 
 part-run-end : tie.Need-part-run-end
 part-run-end c =
-    let d = admitted (c .before .before .before .before .before) in
+    let d = admitted (c .before .before .before .before .before .before) in
     store-room (d .before .before .admit .ensures .granted (d .if1 .left))
 
 run-requires : tie.Need-run-requires
 unfolding part
 run-requires c κs =
-    let d = admitted (c .before .before .before .before .before .before) in
-    granted-sound _ (d .before .before .admit .ensures .granted (d .if1 .left))
+    let begun = c .before .before in
+    let d = admitted (begun .before .before .before .before .before) in
+    rw (begun .released .ensures) (granted-sound _ (d .before .before .admit .ensures .granted (d .if1 .left)))
 
 with-record-requires : tie.Need-with-record-requires
 with-record-requires c κs =
     let lent = c .before .before .before .before .before in
-    let d = admitted (lent .before .before .before .before .before .before .before) in
+    let d = admitted (lent .before .before .before .before .before .before .before .before) in
     d .before .before .admit .ensures .granted (d .if1 .left) .admitted .index
 
 returns-3 : tie.Need-returns-3
 unfolding part inPart
 returns-3 c =
     let lent = c .before .before .before .before .before .before in
-    let own = lent .before .before .before .before .before .before .before in
+    let begun = lent .before .before .before in
+    let own = begun .before .before .before .before .before in
     let d = admitted own in
     exec-ran _ _ _ (d .before .before .admit .ensures) (d .if1 .left) (own .before .run-refusal .ensures) (own .if2 .left)
-    (lent .run .result) _ _ (lent .run .ensures .leaves) (rw (c .before .ran .ensures) at (c .with-record .ensures))
+    (lent .run .result) _ _ (rw (begun .released .ensures) at (lent .run .ensures .leaves)) (rw (c .before .ran .ensures) at (c .with-record .ensures))
 
 pub run-spec : {M : Type 1} → statement M
 run-spec =
     tie.close
     (tie.spec (λ c κs. search needs) (λ c κs. search needs) returns (λ c κs. search needs) (λ c κs. search needs) returns-2
-    (λ c. search needs) (λ c. search needs) (λ c. search needs) (λ c. search needs) (λ c. search needs) part-run-end run-requires
+    (λ c. search needs) (λ c. search needs) (λ c. search needs) (λ c κs. search needs) (λ c. search needs) (λ c. search needs) part-run-end run-requires
     (λ c κs. search needs) with-record-requires (λ c. search needs) (λ c. search needs) returns-3)

@@ -39,6 +39,8 @@ make-call-spec =
     (λ c. search needs)
     (λ c κs. search needs)
     (λ c. search needs)
+    (λ c κs. search needs)
+    (λ c. search needs)
     (λ c. search needs)
     returns
     (λ c. search needs)
@@ -68,4 +70,8 @@ make-call-spec =
     (λ c. search needs)
     (λ c. search needs)
     -- judge
-    (λ c. rw (c .before .before .before .before .call6 .given .1) (c .judge .ensures)))
+    (λ c. rw (c .before .before .before .before .call6 .given .1) (c .judge .ensures))
+    (λ c. search needs)
+    (λ c. search needs)
+    -- switch
+    (λ c. rw (c .before .before .before .before .call7 .given .1) (c .switch .ensures)))

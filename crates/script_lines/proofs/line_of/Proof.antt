@@ -39,5 +39,7 @@ line-of-spec =
     (λ c. rw (c .match .keys10) (simp getD-among))
     -- j
     (λ c. rw (c .match .keys11) (simp getD-among))
+    -- t
+    (λ c. rw (c .match .keys12) (simp getD-among))
     -- any other
     (λ c. rw (formOf-other _ (c .match .rest))))

@@ -22,6 +22,7 @@ reading-of-spec =
     (λ c κs. search needs)
     (λ c κs. search needs)
     (λ c κs. search needs)
+    (λ c κs. search needs)
     -- s
     (λ c. rw (c .before .match .keys1, c .read-as .ensures) (search needs))
     -- p
@@ -44,5 +45,7 @@ reading-of-spec =
     (λ c. rw (c .before .match .keys10, c .read-as10 .ensures) (search needs))
     -- j
     (λ c. rw (c .before .match .keys11, c .read-as11 .ensures) (search needs))
+    -- t
+    (λ c. rw (c .before .match .keys12, c .read-as12 .ensures) (search needs))
     -- any other
-    (λ c. rw (formOf-other _ (c .before .match .rest), c .read-as12 .ensures) (search needs)))
+    (λ c. rw (formOf-other _ (c .before .match .rest), c .read-as13 .ensures) (search needs)))

@@ -83,8 +83,10 @@ impl Plan {
         }
     }
 
+    /// One drawing command; more often CHAR where the trap switch is on.
     pub fn one_drawing(&mut self, dice: &mut Dice, list: &mut List) {
-        let kind = dice.weighted(&[8, 16, 11, 18, 12, 14, 13, 13]);
+        let text = if self.switch { 50 } else { 13 };
+        let kind = dice.weighted(&[8, 16, 11, 18, 12, 14, text, 13]);
         self.drawing_of(dice, list, kind);
     }
 
@@ -222,7 +224,8 @@ impl Plan {
         let (width, height, _) = self.size();
         let place = [dice.between(-1, width), dice.between(-1, height)];
         list.add(dice, opcodes::ABS_MOV, &place);
-        match dice.between(0, 3) {
+        let text = if self.switch { 5 } else { 1 };
+        match dice.weighted(&[1, text, 1, 1]) {
             0 => self.one_drawing(dice, list),
             1 => self.text(dice, list),
             2 => {

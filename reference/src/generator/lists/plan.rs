@@ -34,6 +34,8 @@ pub struct Plan {
     /// Whether lists do without LINK and bitmaps in the store, at which the
     /// judge stops.
     pub plain: bool,
+    /// The trap switch.
+    pub switch: bool,
 }
 
 /// First words of commands, most of which lack their parameter words at the
@@ -59,9 +61,10 @@ impl Plan {
         height: i64,
         depth: u16,
         store_length: u32,
+        traps: bool,
     ) -> Plan {
         let start = dice.pick(&[0, 0, 2, 16]);
-        let data = Data::make(dice, start, width, height);
+        let data = Data::make(dice, start, width, height, traps);
         let mut free = start + data.bytes.len() as u32;
         let mut end = store_length;
         let last_word = if dice.chance(60) {
@@ -112,15 +115,17 @@ impl Plan {
             picking: false,
             filled: false,
             plain: false,
+            switch: false,
         }
     }
 
-    /// The record is fresh again: no font, and pick mode off. The next list
-    /// begins with a bitmap of its own.
+    /// The record is fresh again: no font, pick mode and trap switch off. The
+    /// next list begins with a bitmap of its own.
     pub fn forget(&mut self) {
         self.goes_on = false;
         self.byte_mode = None;
         self.picking = false;
+        self.switch = false;
     }
 
     /// How many words a list may have.
@@ -350,7 +355,8 @@ impl Plan {
             list.add(dice, opcodes::EXIT_PICK, &[]);
             self.picking = false;
         }
-        match dice.weighted(&[60, 24, 6, 6, 5, 2]) {
+        let pick = if self.switch { 6 } else { 2 };
+        match dice.weighted(&[60, 24, 6, 6, 5, pick]) {
             0 => self.draw(dice, list),
             1 => self.settle(dice, list),
             2 => self.travel(dice, list),

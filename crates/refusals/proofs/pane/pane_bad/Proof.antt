@@ -13,13 +13,15 @@ returns c =
       f .font-bad .ensures,
       f .before .clip-outside .ensures,
       f .before .before .rule-broken .ensures,
-      f .before .before .before .progress-bad .ensures,
+      f .before .before .before .trap-bad .ensures,
+      f .before .before .before .before .progress-bad .ensures,
     )
 
 pub pane-bad-spec : {M : Type 1} → statement M
 pane-bad-spec =
     tie.close
     (tie.spec
+    (λ c κs. search needs)
     (λ c κs. search needs)
     (λ c κs. search needs)
     (λ c κs. search needs)
