@@ -1,155 +1,138 @@
-//! Times horizontal runs (02, A.3) on the proved console beside memset over the same bytes: inside the clip, half
-//! outside and all outside, long and short, solid and hatched. What the console draws is checked against the second
-//! implementation.
+//! Horizontal runs (02, A.3) beside memset over the same bytes and pixman's fill: inside the clip, half outside and
+//! all outside, long and short, solid and hatched.
 
-use crate::{run_list, write};
-use reference::calls;
-use reference::setup::{set_up, Console};
-use reference::table::{Geometry, Row};
+use crate::commands::{Commands, List};
+use crate::consoles::{Pane, Runner};
+use crate::contests::{best_times, cell, cell_if, check, passes, ratio, Contestant};
+use crate::pixman::{filling, Area};
 use std::hint::black_box;
-use std::time::Instant;
 
-const WIDTH: u32 = 4096;
-const HEIGHT: u32 = 512;
-const STORE: u32 = 65536;
 /// The column and the row before the first run, and how many runs a SCAN_LINES has, one under the other.
 const COLUMN: u16 = 20;
 const ROW: u16 = 20;
 const RUNS: u16 = 256;
-/// The best of so many rounds counts; console and memset take turns.
-const ROUNDS: usize = 25;
 
 /// Where the runs lie: inside the clip, their first half outside, or all outside.
 #[derive(Clone, Copy, PartialEq)]
-enum Clip {
+pub enum Clip {
     Inside,
     Half,
     Outside,
 }
 
-/// How the runs are drawn: DEF_TEXTURE's word and pattern.
-struct Fill {
+/// How the runs are drawn: DEF_TEXTURE's pattern, and whether it is transparent.
+pub struct Fill {
     name: &'static str,
-    texture: [u16; 2],
+    pattern: u16,
+    transparent: bool,
 }
 
-const FILLS: [Fill; 3] = [
-    Fill { name: "solid", texture: [0x0600, 0xFFFF] },
-    Fill { name: "hatched", texture: [0x0600, 0xF0C3] },
-    Fill { name: "hatched, transparent", texture: [0x0700, 0xF0C3] },
+pub const FILLS: [Fill; 3] = [
+    Fill { name: "solid", pattern: 0xFFFF, transparent: false },
+    Fill { name: "hatched", pattern: 0xF0C3, transparent: false },
+    Fill { name: "hatched, transparent", pattern: 0xF0C3, transparent: true },
 ];
 
 /// One row of the table.
-struct Case<'a> {
-    depth: u32,
-    length: u16,
-    clip: Clip,
-    fill: &'a Fill,
+pub struct Case<'a> {
+    pub depth: u32,
+    pub length: u16,
+    pub clip: Clip,
+    pub fill: &'a Fill,
+}
+
+/// The times of a run, in nanoseconds.
+pub struct Times {
+    pub proved: f64,
+    pub peer: f64,
+    pub memset: Option<f64>,
+    pub pixman: Option<f64>,
 }
 
 impl Case<'_> {
-    /// The bytes of a store with the list: SCAN_LINES again and again by LINK.
-    fn store(&self) -> Vec<u8> {
-        let mut words = vec![0x1A00, 0, 0x20, (WIDTH - 1) as u16, (HEIGHT - 1) as u16, self.depth as u16];
-        words.extend([0x3D00, 0xFFFF, 0x5555]);
-        words.extend(self.fill.texture);
+    fn pane(&self) -> Pane {
+        Pane { width: 4096, height: 512, depth: self.depth, store: 65536 }
+    }
+
+    /// SCAN_LINES again and again.
+    fn list(&self) -> List {
         let edge = match self.clip {
             Clip::Inside => 0,
             Clip::Half => COLUMN + self.length / 2,
-            Clip::Outside => WIDTH as u16 - 8,
+            Clip::Outside => 4088,
         };
-        words.extend([0x4600, edge, 0, (WIDTH - 1) as u16, (HEIGHT - 1) as u16]);
-        let top = 2 * words.len() as u16;
-        let start = if self.clip == Clip::Outside { 0x8000 } else { COLUMN };
-        words.extend([0x4F00, start, ROW, 0xBA00, 0x4000, 0, RUNS, 0x0200, top, 0]);
-        let mut bytes = vec![0u8; STORE as usize];
-        write(&mut bytes, 0, &words);
-        write(&mut bytes, 0x4000, &[0, 1, self.length - 1].repeat(RUNS as usize));
-        bytes
+        let start = if self.clip == Clip::Outside { i16::MIN } else { COLUMN as i16 };
+        let texture = Commands::new().def_texture(self.fill.pattern, self.fill.transparent);
+        List {
+            first: texture.def_clip([edge, 0, 4095, 511]),
+            again: Commands::new().abs_mov(start, ROW as i16).scan_lines(0x4000, RUNS),
+            data: vec![(0x4000, [0, 1, self.length - 1].repeat(RUNS as usize))],
+        }
     }
 
-    /// The bytes of the visible pixels of each run: where they begin, and how many.
-    fn ranges(&self) -> Vec<(usize, usize)> {
+    /// The bytes of the visible pixels of each run.
+    fn areas(&self) -> Vec<Area> {
         let bits = self.depth as usize;
         let first = COLUMN as usize + if self.clip == Clip::Half { self.length as usize / 2 } else { 0 };
         let end = COLUMN as usize + self.length as usize;
-        let row = WIDTH as usize * bits / 8;
-        let (from, to) = (first * bits / 8, (end * bits + 7) / 8);
-        (1..=RUNS as usize).map(|y| ((ROW as usize + y) * row + from, to - from)).collect()
+        let (from, to) = (first * bits / 8, (end * bits).div_ceil(8));
+        (1..=RUNS as usize).map(|y| Area { x: from, y: ROW as usize + y, width: to - from, height: 1 }).collect()
     }
 
-    /// So many commands that a round takes some milliseconds.
-    fn budget(&self) -> u32 {
-        let pixels = if self.clip == Clip::Outside { 1 } else { self.length as u32 };
-        3 * (2 + 160_000 / (RUNS as u32 * (20 + pixels * self.depth / 100)))
-    }
-
-    /// Both implementations draw the same.
-    fn check(&self, screen_len: usize) {
-        let (mut a_screen, mut a_store) = (vec![0u8; screen_len], self.store());
-        let (mut b_screen, mut b_store) = (vec![0u8; screen_len], self.store());
-        self.run(&mut a_screen, &mut a_store, 12);
-        let row = Row { left: 0, top: 0, width: WIDTH, height: HEIGHT, store_start: 0, store_length: STORE };
-        let mut console = Console::planned(Geometry { width: WIDTH, height: HEIGHT, depth: self.depth }, &[row]);
-        set_up(&mut console, &b_screen, &b_store).unwrap();
-        calls::start(&mut console, &b_screen, &b_store, 0, 0).unwrap();
-        calls::run(&mut console, &mut b_screen, &mut b_store, 0, 12).unwrap();
-        assert!(a_screen == b_screen && a_store == b_store, "the two differ");
-        assert_eq!(a_screen.iter().any(|&b| b != 0), self.clip != Clip::Outside, "what is drawn");
-    }
-
-    /// A run of the list by the proved console: the time of a run of pixels, in nanoseconds.
-    fn run(&self, screen: &mut [u8], store: &mut [u8], budget: u32) -> f64 {
-        let began = Instant::now();
-        let done = unsafe {
-            let (screen_at, store_at) = (screen.as_mut_ptr(), store.as_mut_ptr());
-            run_list(screen_at, screen.len(), store_at, store.len(), WIDTH, HEIGHT, self.depth, STORE, budget)
-        };
-        let time = began.elapsed().as_nanos() as f64;
-        assert_eq!(done, budget);
-        time / (budget as f64 / 3.0 * RUNS as f64)
-    }
-
-    /// The best times of a run of pixels and of memset over its bytes.
-    fn times(&self) -> (f64, f64) {
-        let screen_len = (HEIGHT * ((WIDTH * self.depth + 15) / 16) * 2) as usize;
-        self.check(screen_len);
-        let (mut screen, mut store, ranges) = (vec![0u8; screen_len], self.store(), self.ranges());
-        let (mut proved, mut memset) = (f64::MAX, f64::MAX);
-        for round in 0..ROUNDS {
-            proved = proved.min(self.run(&mut screen, &mut store, self.budget()));
-            let times = self.budget() as usize / 3;
-            let began = Instant::now();
+    fn memset(&self) -> Contestant<'static> {
+        let (stride, areas) = (self.pane().stride(), self.areas());
+        let mut screen = vec![0u8; self.pane().screen()];
+        Box::new(move |times| {
             for k in 0..times {
-                for &(at, len) in &ranges {
-                    screen[at..at + len].fill(black_box((k + round) as u8));
+                for area in &areas {
+                    let at = area.y * stride + area.x;
+                    screen[at..at + area.width].fill(black_box(k as u8));
                 }
             }
-            let time = began.elapsed().as_nanos() as f64;
-            black_box(&screen);
-            memset = memset.min(time / (times * RUNS as usize) as f64);
+            black_box(&mut screen);
+        })
+    }
+
+    /// The best times, after a check that all draw the same.
+    pub fn times(&self) -> Times {
+        let (pane, list) = (self.pane(), self.list());
+        check("runs", &list, &pane, self.clip != Clip::Outside);
+        let mut contestants = vec![passes(&list, &pane, Runner::Proved), passes(&list, &pane, Runner::Peer)];
+        if self.clip != Clip::Outside {
+            contestants.push(self.memset());
+            if self.depth == 8 && self.fill.pattern == 0xFFFF {
+                contestants.extend(filling(pane.screen(), pane.stride(), self.areas()));
+            }
         }
-        (proved, memset)
+        let times: Vec<f64> = best_times(contestants).into_iter().map(|time| time / f64::from(RUNS)).collect();
+        Times { proved: times[0], peer: times[1], memset: times.get(2).copied(), pixman: times.get(3).copied() }
     }
 }
 
 /// One line of the table.
 fn print(case: &Case) {
-    let (proved, memset) = case.times();
+    let Times { proved, peer, memset, pixman } = case.times();
     let (depth, length, fill) = (case.depth, case.length, case.fill.name);
-    match case.clip {
-        Clip::Outside => println!("| all outside, {length} pixels | {depth} | {fill} | {proved:.1} | | |"),
-        _ => {
-            let part = if case.clip == Clip::Inside { "inside" } else { "half outside" };
-            println!("| {part}, {length} pixels | {depth} | {fill} | {proved:.1} | {memset:.1} | {:.2} |", proved / memset);
-        }
-    }
+    let part = match case.clip {
+        Clip::Inside => "inside",
+        Clip::Half => "half outside",
+        Clip::Outside => "all outside",
+    };
+    let (to_memset, to_peer) = (ratio(proved, memset), ratio(proved, Some(peer)));
+    let (proved, peer, memset, pixman) = (cell(proved), cell(peer), cell_if(memset), cell_if(pixman));
+    println!(
+        "| {part}, {length} pixels | {depth} | {fill} | {proved} | {peer} | {memset} | {pixman} | {to_memset} \
+         | {to_peer} |"
+    );
 }
 
 pub fn print_table() {
-    println!("| run | depth | drawn | proved, ns a run | memset, ns a run | proved / memset |");
-    println!("|---|---|---|---|---|---|");
-    for depth in [1u32, 4, 8] {
+    println!(
+        "| run | depth | drawn | proved, ns a run | C peer, ns a run | memset, ns a run | pixman, ns a run \
+         | proved / memset | proved / peer |"
+    );
+    println!("|---|---|---|---|---|---|---|---|---|");
+    for depth in [1, 4, 8] {
         for fill in &FILLS {
             for (length, clip) in [(4000, Clip::Inside), (4000, Clip::Half), (31, Clip::Inside), (31, Clip::Half)] {
                 print(&Case { depth, length, clip, fill });

@@ -39,3 +39,13 @@ shareSpan-apart a m b n k e lo hi =
     shared l h =
         holds (sym e ∙ both-of (lt-ltb 0 m (omega arith)) (both-of (lt-ltb 0 n (omega arith))
         (both-of (lt-ltb a (b + n) (omega arith)) (lt-ltb b (a + m) (omega arith)))))
+
+-- .. and if both have some, one ends before the other begins
+pub shareSpan-before : (a m b n : ℕ) → shareSpan a m b n ≡ false → 0 < m → 0 < n → (a + m ≤ b) ⊎ (b + n ≤ a)
+shareSpan-before a m b n e h l =
+    split (ltb b (a + m))
+    (λ f. inr (leb-or a (b + n) (λ g. absurd (holds (sym e ∙ both-of (lt-ltb 0 m h) (both-of (lt-ltb 0 n l) (both-of g f)))))))
+    (λ f. inl (ltb-false b (a + m) f))
+  where
+    leb-or : (p q : ℕ) → (ltb p q ≡ true → q ≤ p) → q ≤ p
+    leb-or p q k = split (ltb p q) k (ltb-false p q)

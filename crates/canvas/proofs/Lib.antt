@@ -3,6 +3,7 @@ pub mod CanvasLaws
 pub mod KeptLaws
 pub mod TargetLaws
 pub mod PaintLaws
+pub mod BufferLaws
 pub mod LandingLaws
 pub mod PlanLaws
 pub mod ReachLaws

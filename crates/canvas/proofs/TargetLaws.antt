@@ -42,7 +42,7 @@ module _ {t : Target} {m n : ℕ} (h : Ready t m n) {x y : ℕ} (i : InClip t x 
     row = omega (arith, h .south, i .south);
   }
 
-  clip-visible : (s : Source) → something s ≡ true → visible (t .area .surface) (t .clip) (dot (at (pos x) (pos y)) s) ≡ true
+  pub clip-visible : (s : Source) → something s ≡ true → visible (t .area .surface) (t .clip) (dot (at (pos x) (pos y)) s) ≡ true
   unfolding visible
   clip-visible s e =
       both-of e (both-of (lt-ltb x (t .area .surface .width) (omega (arith, h .east, i .east)))

@@ -21,14 +21,14 @@ use Rattle.coordinates.proofs.EdgeLaws.{within-true, within-early, within-late,
 use Rattle.coordinates.specs.declared.Index.the-variants.{At, Outside}
 use Rattle.canvas.specs.declared.Target.{Target}
 use Rattle.canvas.specs.Canvas.{Canvas, painted, paintedAll}
-use Rattle.canvas.proofs.CanvasLaws.{paintedAll-none, paintedAll-next, paintedAll-joined}
+use Rattle.canvas.proofs.CanvasLaws.{paintedAll-none, paintedAll-joined}
 use Rattle.canvas.proofs.TargetLaws.{painted-outside-x, painted-outside-y}
 use Rattle.fault_copies.proofs.BlockLaws.{plainRectangle}
 use Rattle.draw_copies.specs.Steps.{steps}
 use Rattle.draw_copies.specs.declared.Extent.{Extent}
 use Rattle.draw_copies.proofs.StepLaws.{steps-are, steps-agree, steps-idle, steps-crop}
-use Rattle.draw_copies.proofs.MoveLaws.{paintedRow, paintedPatch}
-use Rattle.draw_copies.specs.Transfers.{Cropped, patchOf, paintedAt}
+use Rattle.draw_copies.proofs.MoveLaws.{paintedAt, listed-steps, paintedRow, paintedPatch}
+use Rattle.draw_copies.specs.Transfers.{Cropped, patchOf}
 
 -- ## From edges to an extent
 
@@ -76,10 +76,6 @@ module _ (lo hi p n b : ℕ) (e : Edges) (at : unbiased b ≡ coord p +ℤ pos 0
       along i = omega (arith, first-high l)
 
 -- ## A copy's dots as numbered steps
-
-listed-steps : (t : Target) (f : ℕ → Dot) (n : ℕ) (c : Canvas) → paintedAll t (listed 0 n f) c ≡ steps (λ i. painted t (f i)) n c
-unfolding listed
-listed-steps t f = steps-are (λ n. paintedAll t (listed 0 n f)) (λ i. painted t (f i)) (paintedAll-none t) (λ n. paintedAll-next t n f)
 
 joined-steps : (t : Target) (f : ℕ → List Dot) (n : ℕ) (c : Canvas) → paintedAll t (joined 0 n f) c ≡ steps (λ j. paintedAll t (f j)) n c
 unfolding joined

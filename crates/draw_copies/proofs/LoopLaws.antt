@@ -1,19 +1,21 @@
 -- What the loops over a transfer carry: so many numbered steps are made, and each keeps the buffers' lengths
 -- and adds few to the count.
 use mathlib.Core.Path.{_≡_, sym, ap, _∙_}
-use mathlib.Core.List.{[], _∷_}
+use mathlib.Core.List.{List}
 use Prim.Native.Nat.{ℕ, zero, suc, _+_, _*_, _≤_, _<_}
 use native.Mathlib.Nat.{mul-le-mul-right}
 use native.Mathlib.Omega.{arith}
 use lib.ListN.{length}
+use Rattle.model.specs.Bitmaps.{pixels}
+use Rattle.model.specs.Ranges.{listed}
 use Rattle.model.specs.Dots.{Dot}
 use Rattle.canvas.specs.declared.Target.{Target}
-use Rattle.canvas.specs.Canvas.{Canvas, painted, paintedAll, countEnd}
-use Rattle.canvas.proofs.CanvasLaws.{SameLengths, painted-lengths, paintedAll-hits, hits-length}
+use Rattle.canvas.specs.Canvas.{Canvas, countEnd}
+use Rattle.canvas.proofs.CanvasLaws.{SameLengths, paintedAll-none, paintedAll-lengths, paintedAll-hits, hits-length, listed-length}
 use Rattle.draw_copies.specs.Steps.{steps, reversedIf}
-use Rattle.draw_copies.specs.Transfers.{Movable, movedPixel, movedRow}
+use Rattle.draw_copies.specs.Transfers.{bufferOf, patchDot, movedRow, movedAll, Movable}
 use Rattle.draw_copies.specs.declared.Transfer.{Transfer}
-use Rattle.draw_copies.proofs.StepLaws.{steps-none, steps-next, steps-keep}
+use Rattle.draw_copies.proofs.StepLaws.{steps-none, steps-next, steps-idle}
 use Rattle.draw_copies.proofs.MoveLaws.{lengths-refl, lengths-on}
 
 -- ## What a step does at the most
@@ -23,38 +25,33 @@ pub record Bounded (g : ℕ → Canvas → Canvas) (w : ℕ) : Type 0 where
   pub lengths : (k : ℕ) (c : Canvas) → SameLengths c (g k c)
   pub few : (k : ℕ) (c : Canvas) → g k c .hits ≤ c .hits + w
 
-module _ {g : ℕ → Canvas → Canvas} {w : ℕ} (b : Bounded g w) where
-  steps-lengths : (n : ℕ) (c : Canvas) → SameLengths c (steps g n c)
-  steps-lengths n c = steps-keep (SameLengths c) g n c (λ k l m s. lengths-on s (b .lengths k m)) (lengths-refl c)
-
-  steps-few : (n : ℕ) (c : Canvas) → steps g n c .hits ≤ c .hits + n * w
-  unfolding steps
-  steps-few zero c = omega arith
-  steps-few (suc n) c = omega (arith, b .few n (steps g n c), steps-few n c)
-
-painted-few : (t : Target) (d : Dot) (c : Canvas) → painted t d c .hits ≤ c .hits + 1
-unfolding paintedAll
-painted-few t d c = omega (arith, paintedAll-hits t (d ∷ []) c, hits-length t (d ∷ []))
+steps-few : {g : ℕ → Canvas → Canvas} {w : ℕ} → Bounded g w → (n : ℕ) (c : Canvas) → steps g n c .hits ≤ c .hits + n * w
+unfolding steps
+steps-few b zero c = omega arith
+steps-few {g} b (suc n) c = omega (arith, b .few n (steps g n c), steps-few b n c)
 
 module _ (t : Target) (m : Transfer) where
-  -- the pixels of a row, in the order of its columns
-  abbrev pub rowSteps : ℕ → ℕ → Canvas → Canvas
-  rowSteps j k = movedPixel t m (reversedIf (m .order .left) (m .patch .wide) k) j
-
-  pub rowSteps-bounded : (j : ℕ) → Bounded (rowSteps j) 1
-  unfolding movedPixel
-  rowSteps-bounded j = record { lengths = λ k c. painted-lengths t _ c; few = λ k c. painted-few t _ c }
-
   -- all rows, in their order
   abbrev pub allSteps : ℕ → Canvas → Canvas
-  allSteps k = movedRow t m (reversedIf (m .order .up) (m .patch .high) k)
+  allSteps k = movedRow t m (reversedIf (m .up) (m .patch .high) k)
 
   pub allSteps-bounded : Bounded allSteps (m .patch .wide)
   unfolding movedRow
   allSteps-bounded = record {
-    lengths = λ k c. steps-lengths (rowSteps-bounded _) (m .patch .wide) c;
-    few = λ k c. omega (arith, steps-few (rowSteps-bounded (reversedIf (m .order .up) (m .patch .high) k)) (m .patch .wide) c);
+    lengths = λ k c. paintedAll-lengths t (dots k c) c;
+    few = λ k c. omega (arith, paintedAll-hits t (dots k c) c, hits-length t (dots k c), listed-length 0 (m .patch .wide) (columns k c));
   }
+    where
+      columns : ℕ → Canvas → ℕ → Dot
+      columns k c = patchDot (pixels (m .source .surface) (bufferOf (m .source) c)) (m .patch) (reversedIf (m .up) (m .patch .high) k)
+
+      dots : ℕ → Canvas → List Dot
+      dots k c = listed 0 (m .patch .wide) (columns k c)
+
+  -- rows of no pixel
+  pub moved-none : m .patch .wide ≡ 0 → (c : Canvas) → movedAll t m c ≡ c
+  unfolding movedAll movedRow listed
+  moved-none e c = steps-idle allSteps (m .patch .high) c (λ k l z. rw e (paintedAll-none t z))
 
 -- ## The invariant
 

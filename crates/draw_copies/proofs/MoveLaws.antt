@@ -1,10 +1,10 @@
--- A transfer in place: values read as the copy goes are those that stood there before, if no pixel is drawn
--- on before it is read. The two orders, of columns in a row and of rows, each go by the law `in-place`.
+-- A transfer in place: values read row by row are those that stood there before, if no row is drawn on before it is
+-- read. Within a row all values are read first.
 use mathlib.Core.Path.{_≡_, refl, ap, _∙_}
 use mathlib.Core.Logic.{_≢_, _⊎_, inl, inr}
 use mathlib.Core.Bool.{Bool, true, false, cond}
 use mathlib.Core.List.{List}
-use Prim.Native.Nat.{ℕ, _+_, _/_, _%_, _<_}
+use Prim.Native.Nat.{ℕ, _+_, _/_, _%_, _≤_, _<_}
 use native.Mathlib.Omega.{arith}
 use borrow.Author.Tests.{ltb-true, ltb-false}
 use lib.Dec.{ltb}
@@ -13,6 +13,7 @@ use lib.ListN.{getD}
 use Rattle.model.specs.declared.Surface.{Surface}
 use Rattle.model.specs.declared.Source.the-variants.{Copied}
 use Rattle.model.specs.Coordinates.{at}
+use Rattle.model.specs.Ranges.{listed}
 use Rattle.model.specs.Words.{bit, num, fieldAt}
 use Rattle.model.specs.Bitmaps.{placeBit, inside, pixels, Fits}
 use Rattle.model.specs.Pixels.{Change, change}
@@ -21,16 +22,16 @@ use Rattle.model.proofs.Decisions.{cond-ind}
 use Rattle.raster.proofs.ChangeLaws.{change-comm, pixels-kept}
 use Rattle.bitmaps.specs.declared.areas.Area.{Area}
 use Rattle.canvas.specs.declared.Target.{Target}
-use Rattle.canvas.specs.declared.Heading.{Heading}
-use Rattle.canvas.specs.Canvas.{Canvas, canvas, changedUnless, counted, hit, painted}
-use Rattle.canvas.proofs.CanvasLaws.{SameLengths, painted-lengths}
+use Rattle.canvas.specs.Canvas.{Canvas, canvas, changedUnless, counted, hit, painted, paintedAll}
+use Rattle.canvas.proofs.CanvasLaws.{SameLengths, painted-lengths, paintedAll-none, paintedAll-next}
 use Rattle.canvas.proofs.KeptLaws.{change-byte}
-use Rattle.fault_copies.specs.Sharing.{Aside}
+use Rattle.bitmaps.specs.Areas.{rowsEnd}
+use Rattle.row_copies.specs.declared.operators.Operator.{Operator}
 use Rattle.draw_copies.specs.Steps.{steps}
-use Rattle.draw_copies.specs.Transfers.{bufferOf, paintedAt, movedPixel, movedRow, movedAll, orderOf}
+use Rattle.draw_copies.specs.Transfers.{bufferOf, patchDot, movedRow, movedAll}
 use Rattle.draw_copies.specs.declared.Patch.{Patch}
 use Rattle.draw_copies.specs.declared.Transfer.{Transfer}
-use Rattle.draw_copies.proofs.StepLaws.{steps-keep, steps-swap, Stays, Commute, Before, in-place}
+use Rattle.draw_copies.proofs.StepLaws.{steps-are, steps-agree, steps-keep, steps-swap, Stays, Commute, Before, in-place}
 
 -- ## One dot, in the buffer of an area
 
@@ -52,6 +53,10 @@ painted-buffer P t a d c p q = cond-ind (λ (z : Canvas). P (bufferOf a z)) (vis
     (λ e. changed-buffer P (t .picking) (t .area .onscreen) (a .onscreen) (t .area .surface) (changeOf (t .area .surface) (t .pen) d) c p q) (λ e. p)
 
 -- ## Two dots at different places
+
+-- a value drawn at (x,y) of the target
+abbrev pub paintedAt : Target → ℕ → ℕ → ℕ → Canvas → Canvas
+paintedAt t x y v c = painted t (dot (at (pos x) (pos y)) (Copied v)) c
 
 changed-swap : (picking here : Bool) (s : Surface) (a b : Change) (c : Canvas)
     → change s a (change s b (cond here (c .screen) (c .store))) ≡ change s b (change s a (cond here (c .screen) (c .store)))
@@ -79,6 +84,11 @@ paintedAt-swap t x y v x′ y′ v′ c f n =
     (changed-swap (t .picking) (t .area .onscreen) s (changeOf s (t .pen) d) (changeOf s (t .pen) e) c (change-comm s (bufferOf (t .area) c) f _ _ n))
 
 -- ## A patch, all values as a reader has them
+
+-- dots one after the other are steps
+pub listed-steps : (t : Target) (f : ℕ → Dot) (n : ℕ) (c : Canvas) → paintedAll t (listed 0 n f) c ≡ steps (λ i. painted t (f i)) n c
+unfolding listed
+listed-steps t f = steps-are (λ n. paintedAll t (listed 0 n f)) (λ i. painted t (f i)) (paintedAll-none t) (λ n. paintedAll-next t n f)
 
 -- row j
 unfoldable pub paintedRow : Target → (ℕ → ℕ → ℕ) → Patch → ℕ → Canvas → Canvas
@@ -112,8 +122,7 @@ abbrev pub TargetFits : Target → Canvas → Type 0
 TargetFits t c = (z : Canvas) → SameLengths c z → Fits (t .area .surface) (bufferOf (t .area) z)
 
 module _ (t : Target) (m : Transfer) (c : Canvas) (fits : TargetFits t c)
-    (columns : (i i′ j : ℕ) → i < m .patch .wide → i′ < m .patch .wide → j < m .patch .high → Before (m .order .left) i i′ → KeptBy t m c i j i′ j)
-    (rows : (i j i′ j′ : ℕ) → i < m .patch .wide → i′ < m .patch .wide → j < m .patch .high → j′ < m .patch .high → Before (m .order .up) j j′
+    (rows : (i j i′ j′ : ℕ) → i < m .patch .wide → i′ < m .patch .wide → j < m .patch .high → j′ < m .patch .high → Before (m .up) j j′
     → KeptBy t m c i j i′ j′) where
   abbrev p : Patch
   p = m .patch
@@ -144,19 +153,18 @@ module _ (t : Target) (m : Transfer) (c : Canvas) (fits : TargetFits t c)
 
   row-moved : (j : ℕ) → j < p .high → (z : Canvas) → SameLengths c z → ((i : ℕ) → i < p .wide → Stands j i z)
       → movedRow t m j z ≡ paintedRow t see p j z
-  unfolding movedRow paintedRow movedPixel pixel Stands
+  unfolding movedRow paintedRow Stands
   row-moved j h z s r =
-      in-place (SameLengths c) (λ i. movedPixel t m i j) (pixel j) (Stands j) (m .order .left) (p .wide) (pixel-stays j)
-      (λ k l n a e. ap (λ (v : ℕ). paintedAt t (p .x + k) (p .y + j) v n) e)
-      (λ i k a b f n l e. columns i k j a b h f (see (p .sx + i) (p .sy + j)) n l ∙ e)
-      (λ i k a b d. pixel-swap j j i k (inl d))
-      z s r
+      let drawn : ℕ → Canvas → Canvas = λ i. paintedAt t (p .x + i) (p .y + j) (see (p .sx + i) (p .sy + j)) in
+      listed-steps t (patchDot (shownOn (m .source) z) p j) (p .wide) z
+      ∙ steps-agree (λ i. painted t (patchDot (shownOn (m .source) z) p j i)) drawn (p .wide) z
+      (λ i l. ap (λ (v : ℕ). paintedAt t (p .x + i) (p .y + j) v (steps drawn i z)) (r i l))
 
   row-stays : Stays (SameLengths c) (paintedRow t see p) (p .high)
   unfolding paintedRow pixel
   row-stays j l z s = steps-keep (SameLengths c) (pixel j) (p .wide) z (pixel-stays j) s
 
-  row-keeps : (j k : ℕ) → j < p .high → k < p .high → Before (m .order .up) j k → (z : Canvas) → SameLengths c z
+  row-keeps : (j k : ℕ) → j < p .high → k < p .high → Before (m .up) j k → (z : Canvas) → SameLengths c z
       → ((i : ℕ) → i < p .wide → Stands k i z) → (i : ℕ) → i < p .wide → Stands k i (paintedRow t see p j z)
   unfolding paintedRow pixel Stands
   row-keeps j k a b f z s r i l =
@@ -171,34 +179,36 @@ module _ (t : Target) (m : Transfer) (c : Canvas) (fits : TargetFits t c)
   all-moved : movedAll t m c ≡ paintedPatch t see p c
   unfolding movedAll paintedPatch Stands
   all-moved =
-      in-place (SameLengths c) (movedRow t m) (paintedRow t see p) (λ j z. (i : ℕ) → i < p .wide → Stands j i z) (m .order .up) (p .high)
+      in-place (SameLengths c) (movedRow t m) (paintedRow t see p) (λ j z. (i : ℕ) → i < p .wide → Stands j i z) (m .up) (p .high)
       row-stays row-moved row-keeps rows-swap c (lengths-refl c) (λ j l i h. refl)
 
 -- ## Within one bitmap
 
--- no column is drawn on before it is read, and so for rows
-passed : (s d i k : ℕ) → Before (ltb s d) i k → s + k ≢ d + i
-passed s d i k b = by (ltb s d) refl b
+-- an order of rows in which none is drawn on before it is read
+abbrev pub ReadFirst : Patch → Bool → Type 0
+ReadFirst p up = (j k : ℕ) → Before up j k → p .sy + k ≢ p .y + j
+
+-- up if the copy goes down, and down if not
+pub read-first : (p : Patch) → ReadFirst p (ltb (p .sy) (p .y))
+read-first p j k b = by (ltb (p .sy) (p .y)) refl b
   where
-    by : (back : Bool) → ltb s d ≡ back → Before back i k → s + k ≢ d + i
-    by true e f q = let l = ltb-true s d e in omega arith
-    by false e f q = let l = ltb-false s d e in omega arith
+    by : (up : Bool) → ltb (p .sy) (p .y) ≡ up → Before up j k → p .sy + k ≢ p .y + j
+    by true e f q = let l = ltb-true (p .sy) (p .y) e in omega arith
+    by false e f q = let l = ltb-false (p .sy) (p .y) e in omega arith
 
--- a patch of a source, in an order
-abbrev pub transfer : Area → Patch → Heading → Transfer
-transfer a p o = record { source = a; patch = p; order = o }
+-- a patch of a source, its rows from the bottom or from the top
+abbrev pub transfer : Area → Patch → Bool → Operator → Transfer
+transfer a p up operator = record { source = a; patch = p; up = up; operator = operator }
 
-module _ (t : Target) (p : Patch) (c : Canvas) (fits : TargetFits t c) where
-  other-kept : (i j i′ j′ : ℕ) → (p .sx + i′ ≢ p .x + i) ⊎ (p .sy + j′ ≢ p .y + j) → KeptBy t (transfer (t .area) p (orderOf p)) c i j i′ j′
+module _ (t : Target) (p : Patch) (up : Bool) (operator : Operator) (c : Canvas) (fits : TargetFits t c) where
+  other-kept : (i j i′ j′ : ℕ) → p .sy + j′ ≢ p .y + j → KeptBy t (transfer (t .area) p up operator) c i j i′ j′
   other-kept i j i′ j′ n v z s =
       painted-buffer (λ (l : List ℕ). pixels (t .area .surface) l (p .sx + i′) (p .sy + j′) ≡ shownOn (t .area) z (p .sx + i′) (p .sy + j′))
       t (t .area) (dot (at (pos (p .x + i)) (pos (p .y + j))) (Copied v)) z refl
-      (λ e. pixels-kept (t .area .surface) (bufferOf (t .area) z) (fits z s) _ (p .sx + i′) (p .sy + j′) n)
+      (λ e. pixels-kept (t .area .surface) (bufferOf (t .area) z) (fits z s) _ (p .sx + i′) (p .sy + j′) (inr n))
 
-  pub moved-within : movedAll t (transfer (t .area) p (orderOf p)) c ≡ paintedPatch t (shownOn (t .area) c) p c
-  moved-within = all-moved t (transfer (t .area) p (orderOf p)) c fits
-      (λ i i′ j a b d f. other-kept i j i′ j (inl (passed (p .sx) (p .x) i i′ f)))
-      (λ i j i′ j′ a b d e f. other-kept i j i′ j′ (inr (passed (p .sy) (p .y) j j′ f)))
+  pub moved-within : ReadFirst p up → movedAll t (transfer (t .area) p up operator) c ≡ paintedPatch t (shownOn (t .area) c) p c
+  moved-within first = all-moved t (transfer (t .area) p up operator) c fits (λ i j i′ j′ a b d e f. other-kept i j i′ j′ (first j j′ f))
 
 -- ## From another bitmap
 
@@ -206,6 +216,10 @@ module _ (t : Target) (p : Patch) (c : Canvas) (fits : TargetFits t c) where
 pixels-byte : (u : Surface) (l m : List ℕ) (x y : ℕ) → getD l (placeBit u x y / 8) 0 ≡ getD m (placeBit u x y / 8) 0 → pixels u l x y ≡ pixels u m x y
 unfolding pixels fieldAt
 pixels-byte u l m x y e = ap (λ (z : ℕ). cond (inside u x y) (num (u .bits) (λ i. bit z (placeBit u x y % 8 + i))) 0) e
+
+-- a byte that is none of a surface's rows
+abbrev pub Aside : Surface → ℕ → Type 0
+Aside s k = (k < s .base) ⊎ (rowsEnd s ≤ k)
 
 -- a patch whose bytes are aside from the target
 module _ (t : Target) (m : Transfer) (c : Canvas) (fits : TargetFits t c)
@@ -224,5 +238,4 @@ module _ (t : Target) (m : Transfer) (c : Canvas) (fits : TargetFits t c)
 
   pub moved-apart : movedAll t m c ≡ paintedPatch t (shownOn (m .source) c) (m .patch) c
   moved-apart = all-moved t m c fits
-      (λ i i′ j a b d f. aside-kept i j i′ j b d)
       (λ i j i′ j′ a b d e f. aside-kept i j i′ j′ b e)

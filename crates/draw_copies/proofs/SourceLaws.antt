@@ -1,10 +1,11 @@
 -- BIT_BLT_M without a fault: its source can be copied from, and what a bitmap shows is what its area does.
-use mathlib.Core.Path.{_≡_, refl, sym, ap, subst}
-use mathlib.Core.Bool.{false, cond, _||_}
+use mathlib.Core.Path.{_≡_, refl, sym, ap, subst, _∙_}
+use mathlib.Core.Bool.{Bool, true, false, cond, _||_}
 use mathlib.Core.List.{List}
 use Prim.Native.Nat.{ℕ, _+_, _<_}
 use native.Mathlib.Omega.{arith}
 use borrow.Author.Tests.{lt-leb}
+use lib.Dec.{eqb}
 use lib.IntN.{pos, _+ℤ_}
 use Rattle.model.specs.declared.Geometry.{Geometry}
 use Rattle.model.specs.declared.Row.{Row}
@@ -14,13 +15,14 @@ use Rattle.model.specs.declared.Surface.{Surface}
 use Rattle.model.specs.declared.Source.the-variants.{Copied}
 use Rattle.model.specs.declared.Bitmap.{Bitmap}
 use Rattle.model.specs.declared.Bitmap.the-variants as bitmap
-use Rattle.model.specs.Bitmaps.{isPane, pixels, surfaceOf, paneSurface, ruleBroken}
+use Rattle.model.specs.Bitmaps.{isPane, pixels, surfaceOf, paneSurface, storeSurface, paneAddress, ruleBroken}
 use Rattle.model.specs.Coordinates.{coord, offset, place, moved}
 use Rattle.model.specs.Dots.{Dot, dot, drawing}
 use Rattle.model.specs.Copies.{Rectangle, rectangleOf, seen, copyDots, copy, blockBad, sharing}
-use Rattle.model.specs.Faults.{noBitmap, copyFault}
+use Rattle.model.specs.Faults.{noBitmap, sourceBitmap, copyFault}
 use Rattle.model.proofs.Decisions.{holds, either-false, cond-none}
 use Rattle.model.proofs.DotLaws.{listed-cong, joined-cong}
+use Rattle.model.proofs.SetupLaws.{ruleBroken-pane}
 use Rattle.bitmaps.specs.Places.{Placed}
 use Rattle.bitmaps.specs.Areas.{screenFrom, areaOf, landingArea}
 use Rattle.canvas.proofs.LandingLaws.{pixels-landing}
@@ -30,16 +32,42 @@ use Rattle.fault_copies.proofs.ReadableLaws.{bitmap-readable}
 use Rattle.draw_copies.specs.Transfers.{Copyable}
 
 module _ (g : Geometry) (r : Row) where
+  -- ## The source has the active bitmap's depth
+
+  landing-bits : (active : Bitmap) → landingArea g r active .surface .bits ≡ surfaceOf g r active .bits
+  unfolding surfaceOf paneSurface screenFrom
+  landing-bits bitmap.Absent = refl
+  landing-bits (bitmap.Pane xmax ymax b) = refl
+  landing-bits (bitmap.Store a xmax ymax b) = refl
+
+  named-bits : (pane : Bool) (a xmax ymax b : ℕ) → ruleBroken g r (cond pane (bitmap.Pane xmax ymax b) (bitmap.Store a xmax ymax b)) ≡ false
+      → surfaceOf g r (cond pane (bitmap.Pane xmax ymax b) (bitmap.Store a xmax ymax b)) .bits ≡ b
+  unfolding surfaceOf paneSurface storeSurface
+  named-bits true a xmax ymax b e = sym (ruleBroken-pane g r xmax ymax b e .depth)
+  named-bits false a xmax ymax b e = refl
+
+  pub source-depth : (active : Bitmap) (a xmax ymax : ℕ) → ruleBroken g r (sourceBitmap g r active a xmax ymax) ≡ false
+      → surfaceOf g r (sourceBitmap g r active a xmax ymax) .bits ≡ landingArea g r active .surface .bits
+  source-depth active a xmax ymax e =
+      named-bits (eqb a paneAddress) a xmax ymax (surfaceOf g r active .bits) e ∙ sym (landing-bits active)
+
   -- no fault after 23
   pub copyFault-copyable : {m n : ℕ} → Placed g r m n → (active source : Bitmap) (b : Block) → noBitmap source ≡ false
-      → copyFault g r active source (rectangleOf b) ≡ 0 → Copyable (landingArea g r active) (areaOf g r source) b m n
-  copyFault-copyable p active source b named e =
+      → copyFault g r active source (rectangleOf b) ≡ 0
+      → (ruleBroken g r source ≡ false → surfaceOf g r source .bits ≡ landingArea g r active .surface .bits)
+      → Copyable (landingArea g r active) (areaOf g r source) b m n
+  copyFault-copyable p active source b named e same =
       let bad = blockBad (surfaceOf g r source) (rectangleOf b) in
       let shared = sharing active source (surfaceOf g r source) (rectangleOf b) in
       let rule = cond-none (ruleBroken g r source) _ _ tt e in
       let block = either-false bad shared (cond-none (bad || shared) _ _ tt (rule .1) .0) in
       let readable = bitmap-readable g r p source named (rule .0) in
-      record { readable = readable; within = block .0; unshared = sharing-unshared g r b active source (readable .depth) (block .0) (block .1) }
+      record {
+        readable = readable;
+        within = block .0;
+        unshared = sharing-unshared g r b active source (readable .depth) (block .0) (block .1);
+        depth = same (rule .0);
+      }
 
   -- the pane by its reader, a store bitmap by the store
   pub seen-pixels : (b : Bitmap) (screen store : List ℕ) → noBitmap b ≡ false

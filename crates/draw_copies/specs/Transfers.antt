@@ -1,10 +1,9 @@
--- A copy as the code goes about it: cropped to the clip, then pixel by pixel, each value read from the buffer
--- as it is then.
+-- A copy as the code goes about it: cropped to the clip, then row by row, each row's values read from the buffer as
+-- it is then.
 use mathlib.Core.Path.{_≡_}
 use mathlib.Core.Bool.{false, cond}
 use mathlib.Core.List.{List}
 use Prim.Native.Nat.{ℕ, _+_, _≤_, _<_}
-use lib.Dec.{ltb}
 use lib.IntN.{ℤ, pos, _+ℤ_}
 use Rattle.model.specs.declared.Block.{Block}
 use Rattle.model.specs.declared.Clip.{Clip}
@@ -12,15 +11,17 @@ use Rattle.model.specs.declared.Point.{Point}
 use Rattle.model.specs.declared.Source.the-variants.{Copied}
 use Rattle.model.specs.Coordinates.{at, between, coord}
 use Rattle.model.specs.Bitmaps.{pixels}
-use Rattle.model.specs.Dots.{dot}
+use Rattle.model.specs.Ranges.{listed}
+use Rattle.model.specs.Dots.{Dot, dot}
 use Rattle.model.specs.Copies.{rectangleOf, blockBad}
 use Rattle.bitmaps.specs.declared.areas.Area.{Area}
 use Rattle.bitmaps.specs.Areas.{Readable}
-use Rattle.canvas.specs.Canvas.{Canvas, painted}
+use Rattle.canvas.specs.Canvas.{Canvas, paintedAll}
 use Rattle.canvas.specs.Targets.{Ready, InClip}
 use Rattle.canvas.specs.declared.Target.{Target}
-use Rattle.canvas.specs.declared.Heading.{Heading}
 use Rattle.fault_copies.specs.Sharing.{Unshared}
+use Rattle.row_copies.specs.Rows.{OperatorOf, Slidable}
+use Rattle.draw_copies.specs.Rows.{rowOf}
 use Rattle.draw_copies.specs.Steps.{steps, reversedIf}
 use Rattle.draw_copies.specs.declared.Extent.{Extent}
 use Rattle.draw_copies.specs.declared.Patch.{Patch}
@@ -57,38 +58,37 @@ pub record Patched (clip : Clip) (from : Point) (b : Block) (p : Patch) : Type 0
   pub rows : Cropped (clip .ymin) (clip .ymax) (coord (from .y)) (b .dy + 1) down
   pub is : p ≡ patchOf b across down
 
--- ## Pixel by pixel
+-- ## Row by row
 
 -- the buffer in which an area lies
 abbrev pub bufferOf : Area → Canvas → List ℕ
 bufferOf a c = cond (a .onscreen) (c .screen) (c .store)
 
--- a value drawn at (x,y) of the target
-abbrev pub paintedAt : Target → ℕ → ℕ → ℕ → Canvas → Canvas
-paintedAt t x y v c = painted t (dot (at (pos x) (pos y)) (Copied v)) c
+-- column i and row j of a patch, its value as a reader of the source has it
+abbrev pub patchDot : (ℕ → ℕ → ℕ) → Patch → ℕ → ℕ → Dot
+patchDot see p j i = dot (at (pos (p .x + i)) (pos (p .y + j))) (Copied (see (p .sx + i) (p .sy + j)))
 
--- column i and row j of a transfer, its value read from the source as it is then
-unfoldable pub movedPixel : Target → Transfer → ℕ → ℕ → Canvas → Canvas
-movedPixel t m i j c =
-    paintedAt t (m .patch .x + i) (m .patch .y + j)
-    (pixels (m .source .surface) (bufferOf (m .source) c) (m .patch .sx + i) (m .patch .sy + j)) c
+-- row j of a transfer, all its values read from the source as it is before the row is drawn
+abbrev pub rowDots : Transfer → ℕ → List ℕ → List Dot
+rowDots m j buffer = listed 0 (m .patch .wide) (patchDot (pixels (m .source .surface) buffer) (m .patch) j)
 
--- row j, from the left or from the right
 unfoldable pub movedRow : Target → Transfer → ℕ → Canvas → Canvas
-movedRow t m j c = steps (λ k. movedPixel t m (reversedIf (m .order .left) (m .patch .wide) k) j) (m .patch .wide) c
+movedRow t m j c = paintedAll t (rowDots m j (bufferOf (m .source) c)) c
 
 -- all rows, from the top or from the bottom
 unfoldable pub movedAll : Target → Transfer → Canvas → Canvas
-movedAll t m c = steps (λ k. movedRow t m (reversedIf (m .order .up) (m .patch .high) k)) (m .patch .high) c
-
--- the order in which no pixel of a bitmap is drawn on before it is read: to the left if the copy goes to the
--- right, up if it goes down
-abbrev pub orderOf : Patch → Heading
-orderOf p = record { left = ltb (p .sx) (p .x); up = ltb (p .sy) (p .y) }
+movedAll t m c = steps (λ k. movedRow t m (reversedIf (m .up) (m .patch .high) k)) (m .patch .high) c
 
 -- ## What is asked
 
--- a transfer whose source lies in its area, and whose target lies in the clip, for buffers of these lengths
+-- in one buffer, a row of a transfer and its source are one row, or apart
+abbrev pub SlidableRows : Target → Transfer → Type 0
+SlidableRows t m =
+    t .area .onscreen ≡ m .source .onscreen → 0 < m .patch .wide → (j : ℕ) → j < m .patch .high
+    → Slidable (rowOf (t .area .surface) m j)
+
+-- a transfer whose source lies in its area and has the target's depth, whose target lies in the clip, and whose operator is
+-- the pen's, for buffers of these lengths
 pub record Movable (t : Target) (m : Transfer) (screen store : ℕ) : Type 0 where
   pub ready : Ready t screen store
   pub readable : Readable (m .source .surface) (cond (m .source .onscreen) screen store)
@@ -98,10 +98,14 @@ pub record Movable (t : Target) (m : Transfer) (screen store : ℕ) : Type 0 whe
   pub wide : m .patch .x + m .patch .wide ≤ 65536
   pub high : m .patch .y + m .patch .high ≤ 65536
   pub tall : m .patch .sy + m .patch .high ≤ 65536
+  pub depth : m .source .surface .bits ≡ t .area .surface .bits
+  pub operator : OperatorOf (t .pen .op) (t .pen .mask) (m .operator)
+  pub clear : SlidableRows t m
 
--- what a copy from another bitmap asks: the source can be read, and the block lies in it and shares no byte
--- with the target
+-- what a copy from another bitmap asks: the source can be read and has the target's depth, and the block lies in it
+-- and shares no byte with the target
 pub record Copyable (target source : Area) (b : Block) (screen store : ℕ) : Type 0 where
   pub readable : Readable (source .surface) (cond (source .onscreen) screen store)
   pub within : blockBad (source .surface) (rectangleOf b) ≡ false
   pub unshared : Unshared target source b
+  pub depth : source .surface .bits ≡ target .surface .bits

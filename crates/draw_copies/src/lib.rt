@@ -1,5 +1,6 @@
 // BIT_BLT and BIT_BLT_M: a block of pixels copied in place, as though all were read first. It is cropped to
-// the clip once, and then goes row by row in the order in which no pixel is drawn on before it is read.
+// the clip once, and then goes row by row, each by whole words, in the order in which no row is drawn on before it is
+// read.
 ghost use mathlib.Core.Path.{_≡_};
 ghost use mathlib.Core.Bool.{false, cond};
 ghost use Prim.Native.Nat.{_+_, _<_, _≤_};
@@ -8,20 +9,21 @@ ghost use lib.ListN.{length};
 ghost use Rattle.model.specs.Bitmaps.{pixels};
 ghost use Rattle.model.specs.Coordinates.{coord, moved};
 ghost use Rattle.model.specs.Copies.{rectangleOf, copy, blockBad};
-ghost use Rattle.bitmaps.specs.Areas.{Readable};
 ghost use Rattle.canvas.specs.Canvas.{canvas, countEnd, Drew};
 ghost use Rattle.canvas.specs.Targets.{Ready};
 ghost use Rattle.draw_copies.specs.Steps.{reversedIf};
-ghost use Rattle.draw_copies.specs.Transfers.{Cropped, Patched, orderOf, movedPixel, movedRow, movedAll};
+ghost use Rattle.draw_copies.specs.Transfers.{Cropped, Patched, movedRow, movedAll};
 ghost use Rattle.draw_copies.specs.Transfers.{Movable, Copyable};
+ghost use Rattle.draw_copies.specs.Rows.{Starts, startOf, RowStarts, rowOf, BitsFit, BitsCopied};
 use bitmaps::Area;
 use canvas::Drawn;
-use canvas::Heading;
 use canvas::Target;
 use model::Block;
 use model::Clip;
 use model::Point;
-use model::Source;
+use model::Surface;
+use row_copies::Operator;
+use row_copies::RowCopy;
 
 // Of numbered columns or rows those that lie in the clip: the first of them, how many, and where the first
 // lies.
@@ -41,12 +43,13 @@ pub struct Patch {
     pub high: usize,
 }
 
-// A copy that is cropped to the clip: a patch of a source, and the order in which its columns and rows are
-// taken.
+// A copy that is cropped to the clip: a patch of a source, whether its rows are taken from the bottom up, and what
+// the pen makes of source and old bits.
 pub struct Transfer {
     pub source: Area,
     pub patch: Patch,
-    pub order: Heading,
+    pub up: bool,
+    pub operator: Operator,
 }
 
 // Which of n columns or rows, the first at a coordinate, lie from lo to hi. The edges are counted from a number
@@ -87,49 +90,67 @@ fn patch_of(clip: Clip, from: Point, b: Block) -> Patch
     }
 }
 
-// The order in which no pixel of a bitmap is drawn on before it is read: to the left if the copy goes to the
-// right, up if it goes down.
-fn order_of(p: Patch) -> Heading
-    ensures { λ r. ⌜ r ≡ orderOf p ⌝ }
+// Where a pixel begins: the first byte of its row, and its first bit from the left of the row.
+pub struct Start {
+    pub row: usize,
+    pub bit: usize,
+}
+
+// Where pixel (x,y) of a surface begins.
+fn start_of(u: Surface, x: usize, y: usize) -> Start
+    requires { ⌜ Starts u x y ⌝ }
+    ensures { λ r. ⌜ r ≡ startOf u x y ⌝ }
 {
-    Heading {
-        left: p.sx < p.x,
-        up: p.sy < p.y,
+    Start {
+        row: u.base + 2 * (u.words * (u.top + y)),
+        bit: (u.left + x) * u.bits,
     }
 }
 
-// The value of pixel (x,y) of an area.
-fn value_of(screen: &[u8], store: &[u8], a: Area, x: usize, y: usize) -> u8
-    requires { ⌜ Readable (a .surface) (cond (a .onscreen) (length (now screen)) (length (now store)))
-        × (x < a .surface .width) × (y < a .surface .height) ⌝ }
-    ensures { λ r. ⌜ r ≡ pixels (a .surface) (cond (a .onscreen) (now (screen .entry)) (now (store .entry))) x y ⌝ }
-{
-    let s = a.surface;
-    if a.onscreen {
-        return raster::pixel_at(screen, s, x, y);
-    }
-    raster::pixel_at(store, s, x, y)
-}
-
-// Column i and row j of a transfer, read and drawn: hits, or one more if the pixel is visible.
-fn move_pixel(
-    screen: &mut [u8],
-    store: &mut [u8],
-    t: Target,
-    m: Transfer,
-    i: usize,
-    j: usize,
-    hits: usize,
-) -> usize
-    requires { ⌜ Movable t m (length (now screen)) (length (now store))
-        × (i < m .patch .wide) × (j < m .patch .high) × (hits < countEnd) ⌝ }
-    ensures { λ r. ⌜ canvas (now (screen .exit)) (now (store .exit)) r
-        ≡ movedPixel t m i j (canvas (now (screen .entry)) (now (store .entry)) hits) ⌝ }
+// Where the bits of row j of a transfer come from and go to.
+fn row_copy_of(u: Surface, m: Transfer, j: usize) -> RowCopy
+    requires { ⌜ RowStarts u m j ⌝ }
+    ensures { λ r. ⌜ r ≡ rowOf u m j ⌝ }
 {
     let p = m.patch;
-    let v = value_of(screen, store, m.source, p.sx + i, p.sy + j);
-    let source = Source::Copied(v);
-    canvas::plot(screen, store, t, p.x + i, p.y + j, source, hits)
+    let area = m.source;
+    let target = start_of(u, p.x, p.y + j);
+    let source = start_of(area.surface, p.sx, p.sy + j);
+    RowCopy {
+        row: target.row,
+        to: target.bit,
+        base: source.row,
+        from: source.bit,
+        count: p.wide * u.bits,
+    }
+}
+
+// Bits of a row copied, in the screen or in the store, from one of the two.
+fn copy_bits(
+    screen: &mut [u8],
+    store: &mut [u8],
+    onto: bool,
+    from: bool,
+    c: RowCopy,
+    operator: Operator,
+)
+    requires { ⌜ BitsFit onto from c operator (now screen) (now store) ⌝ }
+    ensures { λ _. ⌜ BitsCopied onto from c operator (now (screen .entry)) (now (store .entry))
+        (now (screen .exit)) (now (store .exit)) ⌝ }
+{
+    if onto {
+        if from {
+            row_copies::slide_row(screen, c, operator);
+        } else {
+            row_copies::copy_row(screen, store, c, operator);
+        }
+    } else {
+        if from {
+            row_copies::copy_row(store, screen, c, operator);
+        } else {
+            row_copies::slide_row(store, c, operator);
+        }
+    }
 }
 
 // k, or the k-th from the other end of n.
@@ -143,7 +164,8 @@ fn reversed_if(back: bool, n: usize, k: usize) -> usize
     k
 }
 
-// Row j of a transfer, in the order of its columns: hits, and one more for each visible pixel.
+// Row j of a transfer, as though all of it were read first: hits, and one more for each of its pixels, which are all
+// visible.
 fn move_row(
     screen: &mut [u8],
     store: &mut [u8],
@@ -152,22 +174,20 @@ fn move_row(
     j: usize,
     hits: usize,
 ) -> usize
-    requires { ⌜ Movable t m (length (now screen)) (length (now store))
+    requires { ⌜ Movable t m (length (now screen)) (length (now store)) × (0 < m .patch .wide)
         × (j < m .patch .high) × (hits + m .patch .wide < countEnd) ⌝ }
     ensures { λ r. ⌜ canvas (now (screen .exit)) (now (store .exit)) r
         ≡ movedRow t m j (canvas (now (screen .entry)) (now (store .entry)) hits) ⌝ }
 {
     let p = m.patch;
-    let order = m.order;
-    let wide = p.wide;
-    let left = order.left;
-    let mut seen = hits;
-    let mut k = 0;
-    while k < wide {
-        let i = reversed_if(left, wide, k);
-        seen = move_pixel(screen, store, t, m, i, j, seen);
-        k += 1;
+    let seen = hits + p.wide;
+    if t.picking {
+        return seen;
     }
+    let area = t.area;
+    let source = m.source;
+    let c = row_copy_of(area.surface, m, j);
+    copy_bits(screen, store, area.onscreen, source.onscreen, c, m.operator);
     seen
 }
 
@@ -178,9 +198,11 @@ fn move_all(screen: &mut [u8], store: &mut [u8], t: Target, m: Transfer) -> usiz
         ≡ movedAll t m (canvas (now (screen .entry)) (now (store .entry)) 0) ⌝ }
 {
     let p = m.patch;
-    let order = m.order;
     let high = p.high;
-    let up = order.up;
+    let up = m.up;
+    if p.wide == 0 {
+        return 0;
+    }
     let mut seen = 0;
     let mut k = 0;
     while k < high {
@@ -200,8 +222,8 @@ fn copied_to(from: Point, dx: u16, spacing: u16) -> Point
     Point { x, y: from.y }
 }
 
-// BIT_BLT: a block of the active bitmap copied to a position of it. In place; the order is such that all is
-// read before it is drawn on.
+// BIT_BLT: a block of the active bitmap copied to a position of it. In place; where the copy goes down, its rows are
+// taken from the bottom up, so that each is read before it is drawn on.
 pub fn bit_blt(
     screen: &mut [u8],
     store: &mut [u8],
@@ -219,11 +241,12 @@ pub fn bit_blt(
 {
     let patch = patch_of(t.clip, from, b);
     let source = t.area;
-    let order = order_of(patch);
+    let operator = row_copies::operator_of(t.pen, t.truth);
     let m = Transfer {
         source,
         patch,
-        order,
+        up: patch.sy < patch.y,
+        operator,
     };
     let hits = move_all(screen, store, t, m);
     let position = copied_to(from, b.dx, spacing);
@@ -252,14 +275,12 @@ pub fn bit_blt_m(
         (canvas (now (screen .entry)) (now (store .entry)) 0) d (now (screen .exit)) (now (store .exit)) ⌝ }
 {
     let patch = patch_of(t.clip, from, b);
-    let order = Heading {
-        left: false,
-        up: false,
-    };
+    let operator = row_copies::operator_of(t.pen, t.truth);
     let m = Transfer {
         source,
         patch,
-        order,
+        up: false,
+        operator,
     };
     let hits = move_all(screen, store, t, m);
     let position = copied_to(from, b.dx, spacing);

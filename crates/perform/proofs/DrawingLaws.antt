@@ -39,7 +39,7 @@ use Rattle.canvas.proofs.LoopLaws.{drew-hits}
 use Rattle.bitmaps.proofs.BytesLaws.{arrayBad-bytes}
 use Rattle.canvas.proofs.ReachLaws.{bytesBad-reach, aimed-of}
 use Rattle.draw_copies.specs.Transfers.{Copyable}
-use Rattle.draw_copies.proofs.SourceLaws.{copyFault-copyable, seen-pixels, block-landing, copy-landing}
+use Rattle.draw_copies.proofs.SourceLaws.{copyFault-copyable, source-depth, seen-pixels, block-landing, copy-landing}
 use Rattle.draw_text.specs.Writing.{Legible, Writable}
 use Rattle.draw_text.proofs.LegibleLaws.{char-legible}
 use Rattle.perform.specs.Performing.{Allowed, Carries}
@@ -102,7 +102,7 @@ module _ {g : Geometry} {r : Row} {p : Pane} {screen : ℕ} {store : List ℕ} {
         subst (λ (u : Area). Copyable (t .area) u b screen (length store)) (sym at)
         (subst (λ (z : Target). Copyable (z .area) (areaOf g r (sourceBitmap g r (p .bitmap) a xmax ymax)) b screen (length store)) (sym aim)
         (copyFault-copyable g r (h .sound .placed) (p .bitmap) (sourceBitmap g r (p .bitmap) a xmax ymax) b (source-named a xmax ymax _)
-        (drawFault-none (p .bitmap) _ (clear-as told) .1)))
+        (drawFault-none (p .bitmap) _ (clear-as told) .1) (source-depth g r (p .bitmap) a xmax ymax)))
 
     -- CHAR's string can be read
     pub char-writable : {a n : ℕ} {transparent : Bool} → c ≡ command.Char a n transparent → Writable t screen store (p .text) a n

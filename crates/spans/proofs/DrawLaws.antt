@@ -25,7 +25,7 @@ use Rattle.coordinates.proofs.EdgeLaws.{within-true, within-early, within-late,
 use Rattle.canvas.specs.declared.Target.{Target}
 use Rattle.canvas.specs.Targets.{Ready}
 use Rattle.canvas.specs.Canvas.{Canvas, canvas, painted, paintedAll}
-use Rattle.canvas.proofs.CanvasLaws.{paintedAll-hits, paintedAll-screen, paintedAll-store}
+use Rattle.canvas.proofs.BufferLaws.{buffer-length, screen-painted, store-painted}
 use Rattle.strips.specs.Strokes.{shown, patternOn}
 use Rattle.strips.specs.Stretches.{Stretched}
 use Rattle.strips.specs.Strips.{InRow, Woven}
@@ -249,40 +249,7 @@ drawn-none t s e c edges q = sym (unseen t (spanDot (t .pen) s) (s .count) 0 c
     (λ k a b. visible-lies (t .area .surface) (t .clip) (t .pen) s k
     ∙ and-false (something (spanDot (t .pen) s k .source)) _ (edges .none q k (omega arith))))
 
--- a canvas is its parts
-canvas-is : (c : Canvas) {screen store : List ℕ} {count : ℕ} → screen ≡ c .screen → store ≡ c .store → count ≡ c .hits → canvas screen store count ≡ c
-canvas-is c a b n = rw (a, b, n) refl
-
-module _ (t : Target) (ds : List Dot) (screen store : List ℕ) (before count : ℕ) (h : hits (t .area .surface) (t .clip) ds ≡ count) where
-  total : before + count ≡ paintedAll t ds (canvas screen store before) .hits
-  total = sym (paintedAll-hits t ds (canvas screen store before) ∙ ap (λ (n : ℕ). before + n) h)
-
-  -- in pick mode
-  pub picked-painted : t .picking ≡ true → canvas screen store (before + count) ≡ paintedAll t ds (canvas screen store before)
-  picked-painted p = canvas-is (paintedAll t ds (canvas screen store before))
-      (sym (paintedAll-screen t ds (canvas screen store before) ∙ rw p refl)) (sym (paintedAll-store t ds (canvas screen store before) ∙ rw p refl)) total
-
-  -- on the screen
-  pub screen-painted : {new : List ℕ} → t .picking ≡ false → t .area .onscreen ≡ true
-      → new ≡ changes (t .area .surface) (changesOf (t .area .surface) (t .clip) (t .pen) ds) screen
-      → canvas new store (before + count) ≡ paintedAll t ds (canvas screen store before)
-  screen-painted p o e = canvas-is (paintedAll t ds (canvas screen store before))
-      (e ∙ sym (paintedAll-screen t ds (canvas screen store before) ∙ rw (p, o) refl))
-      (sym (paintedAll-store t ds (canvas screen store before) ∙ rw (p, o) refl)) total
-
-  -- in the store
-  pub store-painted : {new : List ℕ} → t .picking ≡ false → t .area .onscreen ≡ false
-      → new ≡ changes (t .area .surface) (changesOf (t .area .surface) (t .clip) (t .pen) ds) store
-      → canvas screen new (before + count) ≡ paintedAll t ds (canvas screen store before)
-  store-painted p o e = canvas-is (paintedAll t ds (canvas screen store before))
-      (sym (paintedAll-screen t ds (canvas screen store before) ∙ rw (p, o) refl))
-      (e ∙ sym (paintedAll-store t ds (canvas screen store before) ∙ rw (p, o) refl)) total
-
 -- ## The numbers on the way
-
-buffer-length : (here : Bool) (screen store : List ℕ) → length (cond here screen store) ≡ cond here (length screen) (length store)
-buffer-length true screen store = refl
-buffer-length false screen store = refl
 
 cond-most : (here : Bool) (a b : ℕ) → cond here a b ≤ a + b
 cond-most true a b = omega arith

@@ -95,7 +95,7 @@ word-bit l at i h k = go (decLt i 8)
         ∙ ap (λ (x : ℕ). bit x (i % 8)) z)
 
 -- .. in a buffer
-bits-word : (l : List ℕ) (at w : ℕ) → getD l at 0 + 256 * getD l (at + 1) 0 ≡ w → getD l at 0 < 256 → (i : ℕ) → i < 16 → bitAt l (8 * at + i) ≡ bit w i
+pub bits-word : (l : List ℕ) (at w : ℕ) → getD l at 0 + 256 * getD l (at + 1) 0 ≡ w → getD l at 0 < 256 → (i : ℕ) → i < 16 → bitAt l (8 * at + i) ≡ bit w i
 unfolding bitAt
 bits-word l at w e h i k =
     let q : (8 * at + i) / 8 ≡ at + i / 8 = omega arith in

@@ -68,8 +68,9 @@ laid-filled {from} {end} {flip} {old} f = record {
 -- ## A word under a cover
 
 -- word q of a row, mixed at its bits from the left, lead to tail - 1
-edged-stretched : (g : ℕ → Bool → Bool) (o q lead tail cover : ℕ) (ink : Ink) {old new : List ℕ} → Edged (o + 2 * q) ink cover old new
-    → Covers lead tail cover → tail ≤ 16 → ((i : ℕ) → i < 16 → (v : Bool) → mixedBit (ink .keep) (ink .flip) i v ≡ g (8 * (o + 2 * q) + i) v)
+pub edged-stretched : (g : ℕ → Bool → Bool) (o q lead tail cover : ℕ) (ink : Ink) {old new : List ℕ} → Edged (o + 2 * q) ink cover old new
+    → Covers lead tail cover → tail ≤ 16
+    → ((i : ℕ) → i < 16 → 16 ≤ i + tail → i + lead < 16 → (v : Bool) → mixedBit (ink .keep) (ink .flip) i v ≡ g (8 * (o + 2 * q) + i) v)
     → Stretched g o (16 * q + lead) (16 * q + tail) old new
 edged-stretched g o q lead tail cover ink {old} {new} e c w mixes = record {
   length = e .length;
@@ -81,7 +82,7 @@ edged-stretched g o q lead tail cover ink {old} {new} e c w mixes = record {
 }
   where
     on : (m r : ℕ) → m ≡ 8 * (o + 2 * q) + r → r < 16 → 16 ≤ r + tail → r + lead < 16 → bitAt new m ≡ g m (bitAt old m)
-    on m r z l a b = rw z (e .inside r l ∙ cond-true _ _ (c .on r l a b) ∙ mixes r l _)
+    on m r z l a b = rw z (e .inside r l ∙ cond-true _ _ (c .on r l a b) ∙ mixes r l a b _)
 
     off : (m r : ℕ) → m ≡ 8 * (o + 2 * q) + r → r < 16 → (r + tail < 16) ⊎ (16 ≤ r + lead) → bitAt new m ≡ bitAt old m
     off m r z l a = rw z (e .inside r l ∙ cond-false _ _ (c .off r l a))
@@ -189,11 +190,11 @@ pub word-stretched : (s : List ℕ) (phase o q lead tail cover lo hi : ℕ) (ink
     → Edged (o + 2 * q) ink cover old new → Covers lead tail cover → tail ≤ 16 → 16 * q + lead ≡ lo → 16 * q + tail ≡ hi
     → Stretched (brushed s phase o) o lo hi old new
 word-stretched s phase o q lead tail cover lo hi ink n e c w x y =
-    rw (← x, ← y) (edged-stretched (brushed s phase o) o q lead tail cover ink e c w (inked s phase o q ink n))
+    rw (← x, ← y) (edged-stretched (brushed s phase o) o q lead tail cover ink e c w (λ i l a b. inked s phase o q ink n i l))
 
 -- ## Stretches that meet, the later one first
 
-stretched-before : {g : ℕ → Bool → Bool} {o lo mid hi : ℕ} {old t new : List ℕ} → Stretched g o mid hi old t → Stretched g o lo mid t new
+pub stretched-before : {g : ℕ → Bool → Bool} {o lo mid hi : ℕ} {old t new : List ℕ} → Stretched g o mid hi old t → Stretched g o lo mid t new
     → lo ≤ mid → mid ≤ hi → Stretched g o lo hi old new
 stretched-before {g} {o} {lo} {mid} {hi} {old} {t} {new} p q h k = record {
   length = q .length ∙ p .length;

@@ -19,7 +19,7 @@ pub fn sixteen(strips: &[u8], at: usize) -> [u8; 16]
 }
 
 // Sixteen bytes put.
-fn lay(buf: &mut [u8], i: usize, flip: [u8; 16])
+pub fn lay(buf: &mut [u8], i: usize, flip: [u8; 16])
     requires { ⌜ i + 16 ≤ length (now buf) ⌝ }
     ensures { λ _. ⌜ Laid i (i + 16) flip (now (buf .entry)) (now (buf .exit)) ⌝ }
 {

@@ -32,14 +32,14 @@ fn ink_at(strips: &[u8], at: usize) -> Ink
 }
 
 // A cover of a word's bits from the left, from bit `lo` of the row on.
-fn lead_of(lo: usize) -> u16
+pub fn lead_of(lo: usize) -> u16
     ensures { λ r. ⌜ Covers (lo % 16) 16 r ⌝ }
 {
     65535u16 >> (lo % 16)
 }
 
 // .. up to bit hi - 1 of the row.
-fn tail_of(hi: usize) -> u16
+pub fn tail_of(hi: usize) -> u16
     requires { ⌜ 0 < hi ⌝ }
     ensures { λ r. ⌜ Covers 0 ((hi - 1) % 16 + 1) r ⌝ }
 {
@@ -47,7 +47,7 @@ fn tail_of(hi: usize) -> u16
 }
 
 // A word drawn under a cover.
-fn edge(buf: &mut [u8], at: usize, ink: Ink, cover: u16)
+pub fn edge(buf: &mut [u8], at: usize, ink: Ink, cover: u16)
     requires { ⌜ at + 2 ≤ length (now buf) ⌝ }
     ensures { λ _. ⌜ Edged at ink cover (now (buf .entry)) (now (buf .exit)) ⌝ }
 {

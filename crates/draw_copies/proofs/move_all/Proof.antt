@@ -1,11 +1,12 @@
 -- `draw_copies::move_all` meets its contract: after k turns the first k rows are moved, in their order.
+use mathlib.Core.Path.{sym}
 use Prim.Native.Nat.{_-_}
 use native.Mathlib.Omega.{arith}
 use borrow.Author.Needs.{needs}
 use Rattle.canvas.specs.Canvas.{canvas}
 use Rattle.draw_copies.specs.Transfers.{movedAll}
 use Rattle.draw_copies.proofs.StepLaws.{reversedIf-lt}
-use Rattle.draw_copies.proofs.LoopLaws.{allSteps, allSteps-bounded, rows-few}
+use Rattle.draw_copies.proofs.LoopLaws.{allSteps, allSteps-bounded, moved-none, rows-few}
 use Rattle.draw_copies.proofs.LoopLaws.{Stepped, stepped-none, stepped-next, stepped-all, stepped-movable, stepped-room}
 use Rattle.draw_copies.proofs.move_all.Statement.{statement}
 use Rattle.draw_copies.proofs.move_all.Tie as tie
@@ -19,7 +20,12 @@ abbrev μ-loop : tie.MeasureT-loop
 
 -- the entry, from the head of the loop
 abbrev entry : tie.At-loop Inv-loop μ-loop → tie.Start Inv-loop μ-loop
-entry c = c .before .before .before .before .before
+entry c = c .before .before .before .before .before .before
+
+returns : tie.Need-returns Inv-loop μ-loop
+returns c =
+    let a = c .before .before .before .before .before .args in
+    sym (moved-none (a .t) (a .m) (c .if1 .taken) _)
 
 move-row-requires : tie.Need-move-row-requires Inv-loop μ-loop
 move-row-requires c κs =
@@ -29,7 +35,8 @@ move-row-requires c κs =
     let s = entry head in
     let m = s .args .m in (
       stepped-movable _ (head .loop .inv) (s .pre),
-      rw (row .reversed-if .ensures) (reversedIf-lt (m .order .up) (m .patch .high) (head .loop .k) (turn .loop-test .taken)),
+      omega (arith, head .before .if1 .left),
+      rw (row .reversed-if .ensures) (reversedIf-lt (m .up) (m .patch .high) (head .loop .k) (turn .loop-test .taken)),
       stepped-room _ (head .loop .inv) (turn .loop-test .taken)
           (omega (arith, rows-few (m .patch .high) (m .patch .wide) (omega (arith, s .pre .high)) (omega (arith, s .pre .wide)))),
     )
@@ -41,9 +48,9 @@ loop-again c =
     let turn = row .before in
     stepped-next _ (turn .before .loop .inv) (turn .loop-test .taken) (rw (row .reversed-if .ensures) at (d .move-row .ensures))
 
-returns : tie.Need-returns Inv-loop μ-loop
+returns-2 : tie.Need-returns-2 Inv-loop μ-loop
 unfolding movedAll
-returns c = stepped-all _ (c .before .loop .inv) (omega (arith, c .loop-test .left))
+returns-2 c = stepped-all _ (c .before .loop .inv) (omega (arith, c .loop-test .left))
 
 pub move-all-spec : {M : Type 1} → statement M
 move-all-spec =
@@ -51,6 +58,7 @@ move-all-spec =
     (tie.spec
     Inv-loop
     μ-loop
+    returns
     (λ c. stepped-none (allSteps-bounded _ _) _ _)
     (λ c κs. search needs)
     move-row-requires
@@ -59,4 +67,4 @@ move-all-spec =
     loop-again
     (λ c. search needs)
     (λ c. search needs)
-    returns)
+    returns-2)

@@ -1,63 +1,55 @@
--- `draw_copies::move_row` meets its contract: after k turns the first k pixels of the row are moved, in the
--- row's order.
-use Prim.Native.Nat.{_-_}
+-- `draw_copies::move_row` meets its contract: the bits of the row copied are its dots drawn.
 use native.Mathlib.Omega.{arith}
 use borrow.Author.Needs.{needs}
-use Rattle.canvas.specs.Canvas.{canvas}
-use Rattle.draw_copies.specs.Transfers.{movedRow}
-use Rattle.draw_copies.proofs.StepLaws.{reversedIf-lt}
-use Rattle.draw_copies.proofs.LoopLaws.{rowSteps, rowSteps-bounded}
-use Rattle.draw_copies.proofs.LoopLaws.{Stepped, stepped-none, stepped-next, stepped-all, stepped-movable, stepped-room}
+use Rattle.draw_copies.proofs.RowLaws.{row-starts, bits-fit, row-moved, row-picked}
 use Rattle.draw_copies.proofs.move_row.Statement.{statement}
 use Rattle.draw_copies.proofs.move_row.Tie as tie
 
-abbrev Inv-loop : tie.InvT-loop
-Inv-loop screen₀ store₀ t m j hits wide left seen₀ k₀ screen store seen k =
-    Stepped (rowSteps t m j) 1 (canvas screen₀ store₀ hits) (canvas screen store seen) k (m .patch .wide)
+-- the entry, from the place where the patch is known
+abbrev entry : tie.After-p → tie.Start
+entry c = c .before .before .before
 
-abbrev μ-loop : tie.MeasureT-loop
-μ-loop screen₀ store₀ t m j hits wide left seen₀ k₀ screen store seen k = m .patch .wide - k
+-- in pick mode
+returns : tie.Need-returns
+returns c =
+    let s = entry (c .before .before) in
+    let a = s .args in
+    row-picked (a .t) (a .m) (a .j) (a .screen .now) (a .store .now) (s .pre .0) (s .pre .1) (s .pre .2) (a .hits) (c .if1 .taken)
 
--- the entry, from the head of the loop
-abbrev entry : tie.At-loop Inv-loop μ-loop → tie.Start Inv-loop μ-loop
-entry c = c .before .before .before .before .before
+row-copy-of-requires : tie.Need-row-copy-of-requires
+row-copy-of-requires c κs =
+    let s = entry (c .before .before .before .before) in
+    let a = s .args in
+    row-starts (a .t) (a .m) (a .j) (a .screen .now) (a .store .now) (s .pre .0) (s .pre .1) (s .pre .2) (omega arith)
 
-move-pixel-requires : tie.Need-move-pixel-requires Inv-loop μ-loop
-move-pixel-requires c κs =
-    let column = c .before .before in
-    let turn = column .before in
-    let head = turn .before in
-    let s = entry head in
-    let m = s .args .m in (
-      stepped-movable _ (head .loop .inv) (s .pre .0),
-      rw (column .reversed-if .ensures) (reversedIf-lt (m .order .left) (m .patch .wide) (head .loop .k) (turn .loop-test .taken)),
-      s .pre .1,
-      omega (arith, stepped-room _ (head .loop .inv) (turn .loop-test .taken) (omega (arith, s .pre .2))),
-    )
+copy-bits-requires : tie.Need-copy-bits-requires
+copy-bits-requires c κs =
+    let r = c .before .before in
+    let s = entry (r .before .before .before .before .before) in
+    let a = s .args in
+    rw (r .row-copy-of .ensures) (bits-fit (a .t) (a .m) (a .j) (a .screen .now) (a .store .now) (s .pre .0) (s .pre .1) (s .pre .2))
 
-loop-again : tie.Need-loop-again Inv-loop μ-loop
-loop-again c =
-    let d = c .before .before .before .before in
-    let column = d .before .before .before in
-    let turn = column .before in
-    stepped-next _ (turn .before .loop .inv) (turn .loop-test .taken) (rw (column .reversed-if .ensures) at (d .move-pixel .ensures))
-
-returns : tie.Need-returns Inv-loop μ-loop
-unfolding movedRow
-returns c = stepped-all _ (c .before .loop .inv) (omega (arith, c .loop-test .left))
+returns-2 : tie.Need-returns-2
+returns-2 c =
+    let b = c .before .before .before .before in
+    let r = b .before .before .before in
+    let d = r .before .before .before in
+    let p = d .before .before in
+    let s = entry p in
+    let a = s .args in
+    row-moved (a .t) (a .m) (a .j) (a .screen .now) (a .store .now) (s .pre .0) (s .pre .1) (s .pre .2)
+    (rw (r .row-copy-of .ensures) at (b .copy-bits .ensures))
+    (λ k. p .before .before .slice-known .given k .fits) (λ k. p .before .slice-known2 .given k .fits)
+    (λ k. c .before .before .slice-known3 .given k .fits) (λ k. c .slice-known4 .given k .fits) (a .hits) (d .if1 .left)
 
 pub move-row-spec : {M : Type 1} → statement M
 move-row-spec =
     tie.close
     (tie.spec
-    Inv-loop
-    μ-loop
-    (λ c. stepped-none (rowSteps-bounded _ _ _) _ _)
-    (λ c κs. search needs)
-    move-pixel-requires
+    (λ c. search needs)
+    returns
+    row-copy-of-requires
+    copy-bits-requires
     (λ c. search needs)
     (λ c. search needs)
-    loop-again
-    (λ c. search needs)
-    (λ c. search needs)
-    returns)
+    returns-2)

@@ -7,7 +7,8 @@ use Rattle.model.specs.Dots.{hits}
 use Rattle.canvas.specs.Canvas.{canvas}
 use Rattle.strips.specs.Strokes.{patternOn}
 use Rattle.spans.specs.Spans.{spanDots}
-use Rattle.spans.proofs.DrawLaws.{drawn-none, drawn-hits, picked-painted, part-painted, seen-most}
+use Rattle.canvas.proofs.BufferLaws.{picked-painted}
+use Rattle.spans.proofs.DrawLaws.{drawn-none, drawn-hits, part-painted, seen-most}
 use Rattle.spans.proofs.draw_span.Statement.{statement}
 use Rattle.spans.proofs.draw_span.Tie as tie
 
