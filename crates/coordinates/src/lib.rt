@@ -97,7 +97,7 @@ fn beyond(a: usize, b: usize) -> usize
 }
 
 // Of the numbers below n, those from first to below end: the edges of none are 0.
-fn among(first: usize, end: usize, n: usize) -> Edges
+pub fn among(first: usize, end: usize, n: usize) -> Edges
     ensures { λ e. ⌜ Among first end n e ⌝ }
 {
     let second = if end < n { end } else { n };

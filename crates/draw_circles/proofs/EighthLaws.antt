@@ -1,5 +1,5 @@
 -- The walk along an eighth of the circle: at each of its points (i,j) with i ≤ j, j is the one that passes for i; past the eighth none does.
-use mathlib.Core.Path.{_≡_, sym, ap}
+use mathlib.Core.Path.{_≡_, sym, ap, _∙_}
 use mathlib.Core.Logic.{_≢_}
 use mathlib.Core.List.{List, [], map}
 use Prim.Native.Nat.{ℕ, zero, suc, _+_, _-_, _*_, _≤_, _<_}
@@ -9,15 +9,17 @@ use Rattle.model.specs.Ranges.{joined}
 use Rattle.model.specs.Coordinates.{Place, place}
 use Rattle.model.specs.declared.Pen.{Pen}
 use Rattle.model.specs.declared.Point.{Point}
-use Rattle.model.specs.Lines.{visited, once}
-use Rattle.model.specs.Circles.{reflections, circlePoints, circleDot, circle}
-use Rattle.model.proofs.CircleLaws.{On, column-on, column-none, columnDots, columnDots-length, joined-rest, circle-dots}
+use Rattle.model.specs.Dots.{Dot}
+use Rattle.model.specs.Lines.{once}
+use Rattle.model.specs.Circles.{reflections, circleDot}
+use Rattle.model.proofs.CircleLaws.{On, column-on, column-none, columnDots, joined-rest, circle-dots}
 use Rattle.canvas.specs.declared.Target.{Target}
-use Rattle.canvas.specs.Canvas.{Canvas, Painted}
-use Rattle.canvas.proofs.LoopLaws.{Painting, painting-list, painting-hits}
+use Rattle.canvas.proofs.LoopLaws.{Painting, painting-list}
 use Rattle.draw_circles.specs.declared.EighthPoint.{EighthPoint}
+use Rattle.draw_circles.specs.declared.sheets.Sheet.{Sheet}
 use Rattle.draw_circles.specs.Eighths.{Along, Further}
-use Rattle.draw_circles.specs.Mirrors.{dotsAt}
+use Rattle.draw_circles.specs.Sheets.{onSheet, Dabbed, dotsAt, dotsOn, circleOn}
+use Rattle.draw_circles.proofs.SheetLaws.{dabbed-none, dabbed-same, dabbed-more}
 
 -- ## Products
 
@@ -35,7 +37,7 @@ product-before (suc j) h = let e : suc j - 1 ≡ j = omega arith in rw e (omega 
 abbrev pub eighthPoint : ℕ → ℕ → ℕ → EighthPoint
 eighthPoint i j excess = record { i = i; j = j; excess = excess }
 
-pub along-first : (r : ℕ) → r ≢ 0 → Along r (eighthPoint 0 r r)
+along-first : (r : ℕ) → r ≢ 0 → Along r (eighthPoint 0 r r)
 along-first r n = record { excess = omega arith; near = λ l. omega arith; inside = omega arith }
 
 -- a column further: j stays, or falls by one. It never has to fall further on the eighth: where it is at least i + 2, one is enough
@@ -61,16 +63,25 @@ along-on r p a l =
 
 -- ## The columns drawn
 
+-- the dots of the first columns
+abbrev pub columnsOn : Sheet → ℕ → ℕ → Target → List Dot
+columnsOn s r k t = joined 0 k (columnDots (t .pen) (s .centre) r)
+
 -- the loop's invariant: the columns before i are drawn
-pub record Walking (t : Target) (from : Point) (r : ℕ) (c₀ c : Canvas) (p : EighthPoint) : Type 0 where
+pub record Walking (s : Sheet) (stamps : List ℕ) (r : ℕ) (old new : List ℕ) (hits : ℕ) (p : EighthPoint) : Type 0 where
   pub along : Along r p
-  pub drawn : Painting t (λ k. joined 0 k (columnDots (t .pen) from r)) c₀ c (p .i) (suc r)
+  pub dabbed : Dabbed s stamps (columnsOn s r (p .i)) (8 * p .i) old new 0 hits
+  pub turn : p .i ≤ suc r
+
+pub walking-first : (s : Sheet) (stamps : List ℕ) (r : ℕ) (old : List ℕ) → r ≢ 0 → Walking s stamps r old old 0 (eighthPoint 0 r r)
+unfolding joined
+walking-first s stamps r old n = record { along = along-first r n; dabbed = dabbed-none old 0; turn = omega arith }
 
 -- the reflections of a point on the eighth are a column
-reflections-column : (t : Target) (from : Point) (r : ℕ) (p : EighthPoint) → Along r p → p .i ≤ p .j
-    → dotsAt t from (once [] (reflections (p .i) (p .j))) ≡ columnDots (t .pen) from r (p .i)
+reflections-column : (s : Sheet) (r : ℕ) (p : EighthPoint) → Along r p → p .i ≤ p .j → (t : Target)
+    → dotsOn s (once [] (reflections (p .i) (p .j))) t ≡ columnDots (t .pen) (s .centre) r (p .i)
 unfolding columnDots
-reflections-column t from r p a l = ap (dotsAt t from) (sym (column-on r (p .i) (p .j) l (along-on r p a l)))
+reflections-column s r p a l t = ap (dotsAt t (s .centre)) (sym (column-on r (p .i) (p .j) l (along-on r p a l)))
 
 -- past the eighth a column is empty
 columns-past : (pen : Pen) (from : Point) (r : ℕ) (p : EighthPoint) → Along r p → p .j < p .i → (k : ℕ) → p .i ≤ k → columnDots pen from r k ≡ []
@@ -79,29 +90,29 @@ columns-past pen from r p a l k h =
     ap (λ (q : List Place). map (circleDot pen (place from)) q)
     (column-none r k (p .j) (omega arith) (omega (arith, a .excess, let m : p .i * p .i ≤ k * k = mul-le-mul h h in m)))
 
-module _ (t : Target) (from : Point) (r : ℕ) (c₀ : Canvas) {c : Canvas} (p : EighthPoint) (w : Walking t from r c₀ c p) where
-  pub walking-next : {c′ : Canvas} {q : EighthPoint} → p .i ≤ p .j
-      → Painted t (dotsAt t from (once [] (reflections (p .i) (p .j)))) c c′ → Further p q → Walking t from r c₀ c′ q
-  walking-next l e f = record {
-    along = f .along r (w .along);
-    drawn =
-        rw (f .column)
-        (painting-list (columnDots (t .pen) from r) c₀ (w .drawn) (omega (arith, w .along .inside)) (rw (reflections-column t from r p (w .along) l) at e));
-  }
-
-  pub walking-hits : c .hits ≤ c₀ .hits + 8 * p .i
-  walking-hits = omega (arith, painting-hits c₀ (w .drawn), columnDots-length (t .pen) from r (p .i))
+module _ {s : Sheet} {stamps : List ℕ} {r : ℕ} {old new : List ℕ} {hits : ℕ} (p : EighthPoint) (w : Walking s stamps r old new hits p) where
+  pub walking-next : {new′ : List ℕ} {hits′ : ℕ} {q : EighthPoint} → p .i ≤ p .j
+      → Dabbed s stamps (dotsOn s (once [] (reflections (p .i) (p .j)))) 8 new new′ hits hits′ → Further p q
+      → Walking s stamps r old new′ hits′ q
+  walking-next {new′} {hits′} l d f =
+      let e = dabbed-same d (λ t. columnDots (t .pen) (s .centre) r (p .i)) (reflections-column s r p (w .along) l) in
+      let b : p .i < suc r = omega (arith, w .along .inside) in
+      let m : Dabbed s stamps (columnsOn s r (p .i + 1)) (8 * (p .i + 1)) old new′ 0 hits′ = record {
+        drawn = λ t other h.
+            let g : Painting t (λ k. columnsOn s r k t) (onSheet t other old 0) (onSheet t other new hits) (p .i) (suc r)
+            = record { drawn = w .dabbed .drawn t other h; turn = w .turn } in
+            painting-list (columnDots (t .pen) (s .centre) r) (onSheet t other old 0) g b (e .drawn t other h) .drawn;
+        length = d .length ∙ w .dabbed .length;
+        few = omega (arith, d .few, w .dabbed .few);
+      } in
+      record { along = f .along r (w .along); dabbed = rw (f .column) m; turn = omega (arith, f .column) }
 
   -- past the eighth the whole circle is drawn
-  pub walking-done : r ≢ 0 → p .j < p .i → Painted t (circle (t .pen) from r .dots) c₀ c
+  pub walking-done : r ≢ 0 → p .j < p .i → Dabbed s stamps (circleOn s r) (8 * suc r) old new 0 hits
   walking-done n l =
-      rw (
-        circle-dots (t .pen) from r n,
-        joined-rest (p .i) 0 (suc r) (columnDots (t .pen) from r) (w .drawn .turn) (λ k h. columns-past (t .pen) from r p (w .along) l k (omega arith)),
-      )
-      (w .drawn .drawn)
-
--- radius 0: the centre alone
-pub circle-centre : (t : Target) (from : Point) (r : ℕ) → r ≡ 0 → circle (t .pen) from r .dots ≡ dotsAt t from (once [] (reflections 0 0))
-unfolding circle circlePoints reflections once visited
-circle-centre t from r e = rw e
+      dabbed-more
+      (dabbed-same (w .dabbed) (circleOn s r)
+      (λ t. sym (circle-dots (t .pen) (s .centre) r n
+      ∙ joined-rest (p .i) 0 (suc r) (columnDots (t .pen) (s .centre) r) (w .turn)
+      (λ k h. columns-past (t .pen) (s .centre) r p (w .along) l k (omega arith)))))
+      (omega (arith, w .turn))

@@ -1,14 +1,16 @@
 // CIRCLE: a walk along an eighth of the circle, each of its points with its reflections.
-ghost use mathlib.Core.List.{[]};
-ghost use Prim.Native.Nat.{_+_, _≤_, _<_};
+mod sheets; // sheets.rt: points in one buffer
+mod sides; // sides.rt: the limits to either side of the centre
+mod tables; // tables.rt: the stamps that a circle is drawn with
+
+ghost use Prim.Native.Nat.{suc, _+_, _*_, _≤_, _<_};
 ghost use lib.IntN.{natAbs};
 ghost use lib.ListN.{length};
 ghost use Rattle.model.specs.Coordinates.{coord};
-ghost use Rattle.model.specs.Lines.{once};
-ghost use Rattle.model.specs.Circles.{mirrored, reflections, circle};
+ghost use Rattle.model.specs.Circles.{circle};
 ghost use Rattle.canvas.specs.Canvas.{canvas, Drew, Painted};
 ghost use Rattle.canvas.specs.Targets.{Ready};
-ghost use Rattle.draw_circles.specs.Mirrors.{Room, pairOf, dotsAt};
+ghost use Rattle.draw_circles.specs.Sheets.{SheetReady, Round, Dabbed, circleOn};
 ghost use Rattle.draw_circles.specs.Eighths.{Further};
 use canvas::Course;
 use canvas::Drawn;
@@ -17,82 +19,10 @@ use canvas::Offset;
 use canvas::Target;
 use model::Point;
 use model::Source;
-
-// (x,y) from the centre and (-x,y), each place once; y goes up or down.
-fn pair(
-    screen: &mut [u8],
-    store: &mut [u8],
-    t: Target,
-    centre: Point,
-    up: bool,
-    o: Offset,
-    hits: usize,
-) -> usize
-    requires { ⌜ Ready t (length (now screen)) (length (now store)) × Room o hits 2 ⌝ }
-    ensures { λ r. ⌜ Painted t (dotsAt t centre (pairOf up o)) (canvas (now (screen .entry)) (now (store .entry)) hits)
-        (canvas (now (screen .exit)) (now (store .exit)) r) ⌝ }
-{
-    let pen = t.pen;
-    let source = Source::Colour(pen.fore);
-    let right = Heading { left: false, up };
-    let rightward = Course {
-        from: centre,
-        heading: right,
-    };
-    let first = canvas::draw_dot(screen, store, t, rightward, o, source, hits);
-    if o.x == 0 {
-        return first;
-    }
-    let left = Heading { left: true, up };
-    let leftward = Course {
-        from: centre,
-        heading: left,
-    };
-    canvas::draw_dot(screen, store, t, leftward, o, source, first)
-}
-
-// (x,y) from the centre, mirrored in the axes, each place once.
-fn mirrored(
-    screen: &mut [u8],
-    store: &mut [u8],
-    t: Target,
-    centre: Point,
-    o: Offset,
-    hits: usize,
-) -> usize
-    requires { ⌜ Ready t (length (now screen)) (length (now store)) × Room o hits 4 ⌝ }
-    ensures { λ r. ⌜ Painted t (dotsAt t centre (once [] (mirrored (o .x) (o .y))))
-        (canvas (now (screen .entry)) (now (store .entry)) hits)
-        (canvas (now (screen .exit)) (now (store .exit)) r) ⌝ }
-{
-    let below = pair(screen, store, t, centre, false, o, hits);
-    if o.y == 0 {
-        return below;
-    }
-    pair(screen, store, t, centre, true, o, below)
-}
-
-// All eight reflections of (x,y) from the centre, each place once.
-fn reflections(
-    screen: &mut [u8],
-    store: &mut [u8],
-    t: Target,
-    centre: Point,
-    o: Offset,
-    hits: usize,
-) -> usize
-    requires { ⌜ Ready t (length (now screen)) (length (now store)) × Room o hits 8 ⌝ }
-    ensures { λ r. ⌜ Painted t (dotsAt t centre (once [] (reflections (o .x) (o .y))))
-        (canvas (now (screen .entry)) (now (store .entry)) hits)
-        (canvas (now (screen .exit)) (now (store .exit)) r) ⌝ }
-{
-    let steep = mirrored(screen, store, t, centre, o, hits);
-    if o.x == o.y {
-        return steep;
-    }
-    let exchanged = Offset { x: o.y, y: o.x };
-    mirrored(screen, store, t, centre, exchanged, steep)
-}
+use sheets::Sheet;
+use sheets::reflections;
+use sides::overlap_of;
+use tables::stamps_for;
 
 // Where the walk along the eighth has come to: the point (i,j), and how far j × (j+1) + i² is above r².
 struct EighthPoint {
@@ -120,16 +50,12 @@ fn next_point(p: EighthPoint) -> EighthPoint
     }
 }
 
-// The circle of radius r about the centre: how many of its points are visible.
-fn ring(screen: &mut [u8], store: &mut [u8], t: Target, centre: Point, r: usize) -> usize
-    requires { ⌜ Ready t (length (now screen)) (length (now store)) × (r ≤ 32768) ⌝ }
-    ensures { λ hits. ⌜ Painted t (circle (t .pen) centre r .dots) (canvas (now (screen .entry)) (now (store .entry)) 0)
-        (canvas (now (screen .exit)) (now (store .exit)) hits) ⌝ }
+// The circle of radius r on a sheet: how many of its points are visible.
+fn ring(buffer: &mut [u8], stamps: &[u8], s: Sheet, r: usize) -> usize
+    requires { ⌜ SheetReady s (length (now buffer)) (length (now stamps)) × Round s r ⌝ }
+    ensures { λ hits. ⌜ Dabbed s (now (stamps .entry)) (circleOn s r) (8 * suc r)
+        (now (buffer .entry)) (now (buffer .exit)) 0 hits ⌝ }
 {
-    if r == 0 {
-        let o = Offset { x: 0, y: 0 };
-        return reflections(screen, store, t, centre, o, 0);
-    }
     let mut hits = 0;
     let mut p = EighthPoint {
         i: 0,
@@ -138,10 +64,64 @@ fn ring(screen: &mut [u8], store: &mut [u8], t: Target, centre: Point, r: usize)
     };
     while p.i <= p.j {
         let o = Offset { x: p.i, y: p.j };
-        hits = reflections(screen, store, t, centre, o, hits);
+        hits = reflections(buffer, stamps, s, o, hits);
         p = next_point(p);
     }
     hits
+}
+
+// The circle of radius 0: the centre alone.
+fn draw_centre(screen: &mut [u8], store: &mut [u8], t: Target, centre: Point) -> usize
+    requires { ⌜ Ready t (length (now screen)) (length (now store)) ⌝ }
+    ensures { λ hits. ⌜ Painted t (circle (t .pen) centre 0 .dots) (canvas (now (screen .entry)) (now (store .entry)) 0)
+        (canvas (now (screen .exit)) (now (store .exit)) hits) ⌝ }
+{
+    let pen = t.pen;
+    let source = Source::Colour(pen.fore);
+    let heading = Heading {
+        left: false,
+        up: false,
+    };
+    let course = Course {
+        from: centre,
+        heading,
+    };
+    let o = Offset { x: 0, y: 0 };
+    canvas::draw_dot(screen, store, t, course, o, source, 0)
+}
+
+// The circle of radius r about the centre: how many of its points are visible. Where its columns or its rows miss the
+// limits, none is.
+fn draw_circle(screen: &mut [u8], store: &mut [u8], t: Target, centre: Point, r: usize) -> usize
+    requires { ⌜ Ready t (length (now screen)) (length (now store)) × (r ≤ 32768) ⌝ }
+    ensures { λ hits. ⌜ Painted t (circle (t .pen) centre r .dots) (canvas (now (screen .entry)) (now (store .entry)) 0)
+        (canvas (now (screen .exit)) (now (store .exit)) hits) ⌝ }
+{
+    if r == 0 {
+        return draw_centre(screen, store, t, centre);
+    }
+    let clip = t.clip;
+    let columns = overlap_of(centre.x, r, clip.xmin, clip.xmax);
+    let rows = overlap_of(centre.y, r, clip.ymin, clip.ymax);
+    if !columns.some {
+        return 0;
+    }
+    if !rows.some {
+        return 0;
+    }
+    let area = t.area;
+    let surface = area.surface;
+    let s = Sheet {
+        surface,
+        clip,
+        centre,
+        inside: columns.all & rows.all,
+    };
+    let stamps = stamps_for(t);
+    if area.onscreen {
+        return ring(screen, &stamps, s, r);
+    }
+    ring(store, &stamps, s, r)
 }
 
 // CIRCLE by its radius: the position stays.
@@ -151,7 +131,7 @@ pub fn circle(screen: &mut [u8], store: &mut [u8], t: Target, from: Point, radiu
         (canvas (now (screen .entry)) (now (store .entry)) 0) d (now (screen .exit)) (now (store .exit)) ⌝ }
 {
     let r = coordinates::magnitude(radius);
-    let hits = ring(screen, store, t, from, r);
+    let hits = draw_circle(screen, store, t, from, r);
     Drawn {
         position: from,
         trap: false,

@@ -1,12 +1,10 @@
--- The pixels of a segment by its line's course and axes are those of the paper's LINE, and the running remainder gives the minor offset.
-use mathlib.Core.Path.{_≡_, sym, ap, ap₂, _∙_}
-use mathlib.Core.Bool.{Bool, true, false, cond}
-use Prim.Native.Nat.{ℕ, zero, suc, _+_, _-_, _*_, _≤_, _<_, max}
-use native.Mathlib.Nat.{div-zero}
+-- The pixels of a segment by its line's course and axes are those of the paper's LINE.
+use mathlib.Core.Path.{_≡_, sym, ap, _∙_}
+use mathlib.Core.Bool.{Bool, true, false}
+use Prim.Native.Nat.{ℕ, suc, _+_, _-_, _≤_, _<_}
 use native.Mathlib.Numerals.{add-one}
 use native.Mathlib.Omega.{arith}
 use borrow.Author.Tests.{le-leb, lt-leb}
-use lib.Arith.{digits-div}
 use lib.ListN.{length}
 use lib.IntN.{ℤ, pos, negℤ, natAbs, _+ℤ_, +ℤ-idr, +ℤ-assoc, negℤ-+ℤ}
 use Rattle.model.specs.Ranges.{listed}
@@ -20,49 +18,17 @@ use Rattle.model.specs.Lines.{minorAt, major, minor, offsetX, offsetY, segmentD
 use Rattle.coordinates.specs.Offsets.{directed, unbiased}
 use Rattle.coordinates.proofs.SignedLaws.{signAs-directed}
 use Rattle.canvas.specs.declared.Course.{Course}
-use Rattle.canvas.specs.declared.Offset.{Offset}
 use Rattle.canvas.specs.declared.Target.{Target}
 use Rattle.canvas.specs.Canvas.{Canvas, painted, paintedAll, Painted}
 use Rattle.canvas.specs.Targets.{placeOn}
 use Rattle.spans.specs.declared.Span.{Span}
 use Rattle.spans.specs.Spans.{spanDot, spanDots}
-use Rattle.draw_lines.specs.Segments.{longestLine, AxesOf, traceAt, traceDot}
+use Rattle.draw_lines.specs.Segments.{longestLine, AxesOf, traceDot}
 use Rattle.canvas.specs.Targets.{courseOf}
 use Rattle.canvas.proofs.CanvasLaws.{listed-length}
-use Rattle.draw_lines.specs.declared.segments.Axes.{Axes}
+use Rattle.draw_lines.specs.declared.slopes.Axes.{Axes}
 use Rattle.draw_lines.specs.declared.segments.Segment.{Segment}
-use Rattle.draw_lines.specs.declared.slopes.Slope.{Slope}
-
--- ## The minor offset
-
--- j spans and a rest below the span make 2 i m + n: then j is pixel i's minor offset
-minorAt-rest : (n m i j e : ℕ) → m ≤ n → e < max 1 (2 * n) → j * max 1 (2 * n) + e ≡ 2 * i * m + n → j ≡ minorAt n m i
-minorAt-rest zero zero i j e h g s = let z : j ≡ 0 = omega arith in z ∙ sym (div-zero (2 * i * 0 + 0))
-minorAt-rest zero (suc m) i j e h g s = absurd (let n : ⊥ = omega arith in n)
-minorAt-rest (suc n) m i j e h g s =
-    let w : max 1 (2 * suc n) ≡ 2 * suc n = omega arith in
-    rw (← (rw w at s)) (sym (digits-div j (rw w at g)))
-
--- the slope after i climbs: its spans and rest make 2 i m + n
-pub record Climbed (axes : Axes) (span : ℕ) (slope : Slope) (i : ℕ) : Type 0 where
-  pub low : slope .at ≤ i
-  pub rest : slope .rest < span
-  pub sum : slope .at * span + slope .rest ≡ 2 * i * axes .smaller + axes .larger
-
--- .. before the first climb, and after it
-pub climbed-first : (axes : Axes) {span : ℕ} (slope : Slope) (first : ℕ) → first ≤ 1 → slope .at ≤ first → slope .rest < span
-    → slope .at * span + slope .rest ≡ first * (2 * axes .smaller) + axes .larger → Climbed axes span slope first
-climbed-first axes slope zero h l r e = record { low = l; rest = r; sum = omega arith }
-climbed-first axes slope (suc zero) h l r e = record { low = l; rest = r; sum = omega arith }
-climbed-first axes slope (suc (suc first)) h l r e = absurd (let n : ⊥ = omega arith in n)
-
--- .. so that its offset is pixel i's
-pub traceAt-climbed : (axes : Axes) {span : ℕ} (slope : Slope) (i : ℕ) {x y : ℕ} → axes .smaller ≤ axes .larger → span ≡ max 1 (2 * axes .larger)
-    → Climbed axes span slope i → x ≡ cond (axes .level) i (slope .at) → y ≡ cond (axes .level) (slope .at) i
-    → _≡_ {A = Offset} (record { x = x; y = y }) (traceAt axes i)
-traceAt-climbed axes slope i h e s p q =
-    let j = minorAt-rest (axes .larger) (axes .smaller) i (slope .at) (slope .rest) h (rw e at (s .rest)) (rw e at (s .sum)) in
-    rw (p, q, j)
+use Rattle.draw_lines.proofs.SlopeLaws.{minorAt-rest}
 
 -- ## LINE
 
@@ -84,13 +50,6 @@ pub segmentDots-trace : (pen : Pen) (from : Point) (dx dy : ℤ) (s : Segment) {
 unfolding segmentDots traceDot
 segmentDots-trace pen from dx dy s c a = simp (c, a .level, a .larger, a .smaller, add-one (major dx dy), signAs-directed, traceDot)
 
--- a dot drawn where pixel k lies
-pub traceDot-drawn : (pen : Pen) (course : Course) (axes : Axes) (s : Segment) (k : ℕ) {o : Offset} {source : Source}
-    → o ≡ traceAt axes (k + s .first) → source ≡ patternSource pen (k + s .index)
-    → dot (placeOn course o) source ≡ traceDot pen course axes s k
-unfolding traceDot
-traceDot-drawn pen course axes s k e q = ap₂ (λ (o : Offset) (w : Source). dot (placeOn course o) w) e q
-
 -- how long a segment is
 pub segmentDots-few : (pen : Pen) (p : Place) (dx dy : ℤ) (first index : ℕ) → natAbs dx ≤ 32768 → natAbs dy ≤ 32768
     → length (segmentDots pen p dx dy first index) ≤ longestLine
@@ -100,7 +59,7 @@ segmentDots-few pen p dx dy first index h k = rw listed-length (omega arith)
 -- ## A horizontal segment
 
 -- some steps, and then more the same way
-directed-on : (z : ℤ) (back : Bool) (m k : ℕ) → z +ℤ directed back m +ℤ directed back k ≡ z +ℤ directed back (k + m)
+pub directed-on : (z : ℤ) (back : Bool) (m k : ℕ) → z +ℤ directed back m +ℤ directed back k ≡ z +ℤ directed back (k + m)
 directed-on z false m k =
     let e : m + k ≡ k + m = omega arith in
     +ℤ-assoc z (pos m) (pos k) ∙ ap (λ (n : ℕ). z +ℤ pos n) e

@@ -1,2 +1,4 @@
--- What the contracts of `draw_lines` cite beside model's definitions.
+-- What the contracts of `draw_lines` cite beside definitions of `model` and `canvas`.
 pub mod Segments
+pub mod Edges
+pub mod Walks

@@ -1,5 +1,5 @@
 -- A segment's pixels by its line's course and axes, as the code has them.
-use Prim.Native.Nat.{ℕ, _+_, _≤_, _<_}
+use Prim.Native.Nat.{ℕ, _+_, _*_, _%_, _≤_, _<_}
 use mathlib.Core.Path.{_≡_}
 use mathlib.Core.Bool.{cond}
 use mathlib.Core.List.{List}
@@ -15,7 +15,8 @@ use Rattle.canvas.specs.declared.Offset.{Offset}
 use Rattle.canvas.specs.Targets.{placeOn}
 use Rattle.spans.specs.declared.Span.{Span}
 use Rattle.spans.specs.Spans.{Bounded, indexEnd, spanDots}
-use Rattle.draw_lines.specs.declared.segments.Axes.{Axes}
+use Rattle.draw_lines.specs.declared.slopes.Axes.{Axes}
+use Rattle.draw_lines.specs.declared.slopes.Slope.{Slope}
 use Rattle.draw_lines.specs.declared.segments.Segment.{Segment}
 
 -- the most pixels that a line has: an offset's magnitude is at most 32,768
@@ -42,12 +43,34 @@ pub record AxesOf (dx dy : ℤ) (a : Axes) : Type 0 where
   pub smaller : a .smaller ≡ minor dx dy
   pub small : a .larger < longestLine
 
+-- the magnitudes are in order, and small
+pub record Sloped (a : Axes) : Type 0 where
+  pub order : a .smaller ≤ a .larger
+  pub small : a .larger < longestLine
+
+-- the minor offset of pixel i of a line
+abbrev pub minorOf : Axes → ℕ → ℕ
+minorOf a i = minorAt (a .larger) (a .smaller) i
+
+-- .. and the rest of its division
+abbrev pub restOf : Axes → ℕ → ℕ
+restOf a i = (2 * i * a .smaller + a .larger) % (2 * a .larger)
+
+pub record SlopeAt (a : Axes) (i : ℕ) (s : Slope) : Type 0 where
+  pub at : s .at ≡ minorOf a i
+  pub rest : s .rest ≡ restOf a i
+
+-- pixel r is the first of a line whose minor offset is j or more
+pub record Reaches (a : Axes) (j r : ℕ) : Type 0 where
+  pub from : (i : ℕ) → i ≤ a .larger → r ≤ i → j ≤ minorOf a i
+  pub below : (i : ℕ) → i ≤ a .larger → i < r → minorOf a i < j
+
 -- where pixel i lies on the course: i along the major axis
 abbrev pub traceAt : Axes → ℕ → Offset
 traceAt a i =
     record {
-      x = cond (a .level) i (minorAt (a .larger) (a .smaller) i);
-      y = cond (a .level) (minorAt (a .larger) (a .smaller) i) i;
+      x = cond (a .level) i (minorOf a i);
+      y = cond (a .level) (minorOf a i) i;
     }
 
 -- pixel k of a segment

@@ -1,5 +1,6 @@
 // One segment of a line from a position, sloped or level. Every pixel of it takes its pattern index, drawn or not.
 ghost use mathlib.Core.Path.{_≡_};
+ghost use mathlib.Core.Bool.{cond};
 ghost use Prim.Native.Nat.{_+_, _≤_, _<_};
 ghost use lib.IntN.{pos};
 ghost use lib.ListN.{length};
@@ -8,12 +9,16 @@ ghost use Rattle.model.specs.Lines.{lineDots, pixelsFrom, segmentDots};
 ghost use Rattle.canvas.specs.Canvas.{canvas, countEnd, Painted};
 ghost use Rattle.canvas.specs.Targets.{Ready};
 ghost use Rattle.spans.specs.Spans.{Strung};
-ghost use Rattle.draw_lines.specs.Segments.{longestLine, dotsOf, wholeLine, Traceable, LevelSpan, AxesOf};
-use crate::slopes::climb;
-use crate::slopes::slope_from;
-use crate::slopes::span_of;
-use canvas::Offset;
+ghost use Rattle.draw_lines.specs.Segments.{longestLine, dotsOf, wholeLine, Traceable, LevelSpan, Sloped};
+ghost use Rattle.draw_lines.specs.Edges.{LineEdges};
+ghost use Rattle.draw_lines.specs.Walks.{traced};
+use crate::edges::edges_of;
+use crate::slopes::Axes;
+use crate::slopes::axes_of;
+use crate::walks::walk;
+use canvas::Course;
 use canvas::Target;
+use coordinates::Edges;
 use model::Point;
 use spans::Span;
 
@@ -41,34 +46,6 @@ pub fn whole_line(dx: u16, dy: u16) -> Segment
     }
 }
 
-// The axes of a line: the larger magnitude goes along the major axis, which is x if level, and the smaller
-// along the minor.
-pub struct Axes {
-    pub level: bool,
-    pub larger: usize,
-    pub smaller: usize,
-}
-
-// The axes of a line by (dx,dy): x is the major one where the magnitudes are equal.
-fn axes_of(dx: u16, dy: u16) -> Axes
-    ensures { λ r. ⌜ AxesOf (coord dx) (coord dy) r ⌝ }
-{
-    let a = coordinates::magnitude(dx);
-    let b = coordinates::magnitude(dy);
-    if b <= a {
-        return Axes {
-            level: true,
-            larger: a,
-            smaller: b,
-        };
-    }
-    Axes {
-        level: false,
-        larger: b,
-        smaller: a,
-    }
-}
-
 // How many pixels a segment has: so many pattern indexes are taken.
 pub fn pixels_of(s: Segment) -> usize
     requires { ⌜ Traceable s ⌝ }
@@ -78,7 +55,34 @@ pub fn pixels_of(s: Segment) -> usize
     axes.larger + 1 - s.first
 }
 
-// A segment from a position, dot by dot: hits and how many of its pixels are visible.
+// The visible pixels of a segment drawn on the bitmap.
+fn draw_part(
+    screen: &mut [u8],
+    store: &mut [u8],
+    t: Target,
+    course: Course,
+    axes: Axes,
+    s: Segment,
+    e: Edges,
+)
+    requires { ⌜ Ready t (length (now screen)) (length (now store)) × Sloped axes × Traceable s
+        × LineEdges (t .clip) course axes (s .first) e × (e .first < e .second) ⌝ }
+    ensures { λ _. ⌜ (now (screen .exit) ≡ cond (t .area .onscreen)
+        (traced t course axes s (now (screen .entry))) (now (screen .entry)))
+        × (now (store .exit) ≡ cond (t .area .onscreen) (now (store .entry))
+        (traced t course axes s (now (store .entry)))) ⌝ }
+{
+    let area = t.area;
+    let u = area.surface;
+    let stamps = stamps::stamps_of(t.pen, t.truth, u.bits);
+    if area.onscreen {
+        walk(screen, &stamps, t, course, axes, s, e);
+    } else {
+        walk(store, &stamps, t, course, axes, s, e);
+    }
+}
+
+// A segment from a position: hits and how many of its pixels are visible. Which these are is worked out first.
 fn trace(
     screen: &mut [u8],
     store: &mut [u8],
@@ -93,23 +97,15 @@ fn trace(
 {
     let course = canvas::course_of(from, s.dx, s.dy);
     let axes = axes_of(s.dx, s.dy);
-    let n = axes.larger;
-    let span = span_of(n);
-    let rise = 2 * axes.smaller;
-    let count = n + 1 - s.first;
-    let mut slope = slope_from(s.first, n, rise, span);
-    let mut seen = hits;
-    let mut k = 0;
-    while k < count {
-        let i = k + s.first;
-        let source = canvas::pattern_source(t.pen, k + s.index);
-        let x = words::either(axes.level, i, slope.at);
-        let y = words::either(axes.level, slope.at, i);
-        let o = Offset { x, y };
-        seen = canvas::draw_dot(screen, store, t, course, o, source, seen);
-        slope = climb(slope, rise, span);
-        k += 1;
+    let e = edges_of(t.clip, course, axes, s.first);
+    if e.first == e.second {
+        return hits;
     }
+    let seen = hits + spans::seen_of(t.pen, s.index + (e.first - s.first), e.second - e.first);
+    if t.picking {
+        return seen;
+    }
+    draw_part(screen, store, t, course, axes, s, e);
     seen
 }
 

@@ -1,7 +1,36 @@
-// The minor offset of a line's pixels, floor((2 × i × m + n) / (2 × n)), kept with the rest of its division
-// from pixel to pixel: no pixel divides.
-ghost use mathlib.Core.Path.{_≡_};
-ghost use Prim.Native.Nat.{_+_, _*_, _≤_, _<_, max};
+// The axes of a line, and the minor offset of its pixels, floor((2 × i × m + n) / (2 × n)), with the rest of that
+// division.
+ghost use Prim.Native.Nat.{_≤_};
+ghost use Rattle.model.specs.Coordinates.{coord};
+ghost use Rattle.draw_lines.specs.Segments.{AxesOf, Sloped, Reaches, SlopeAt};
+
+// The axes of a line: the larger magnitude goes along the major axis, which is x if level, and the smaller
+// along the minor.
+pub struct Axes {
+    pub level: bool,
+    pub larger: usize,
+    pub smaller: usize,
+}
+
+// The axes of a line by (dx,dy): x is the major one where the magnitudes are equal.
+pub fn axes_of(dx: u16, dy: u16) -> Axes
+    ensures { λ r. ⌜ AxesOf (coord dx) (coord dy) r ⌝ }
+{
+    let a = coordinates::magnitude(dx);
+    let b = coordinates::magnitude(dy);
+    if b <= a {
+        return Axes {
+            level: true,
+            larger: a,
+            smaller: b,
+        };
+    }
+    Axes {
+        level: false,
+        larger: b,
+        smaller: a,
+    }
+}
 
 // The minor offset of a pixel, and the rest of its division.
 pub struct Slope {
@@ -9,41 +38,36 @@ pub struct Slope {
     pub rest: usize,
 }
 
-// What is divided by: 2 n, and 1 where n is 0, so that one pixel has minor offset 0.
-pub fn span_of(n: usize) -> usize
-    requires { ⌜ n ≤ 32768 ⌝ }
-    ensures { λ r. ⌜ r ≡ max 1 (2 * n) ⌝ }
+// The slope at pixel i of a line.
+pub fn slope_at(axes: Axes, i: usize) -> Slope
+    requires { ⌜ Sloped axes × (i ≤ axes .larger) ⌝ }
+    ensures { λ r. ⌜ SlopeAt axes i r ⌝ }
 {
-    if n == 0 { 1 } else { 2 * n }
-}
-
-// One pixel on: the rise is added to the rest, and a whole span carries into the offset.
-pub fn climb(s: Slope, rise: usize, span: usize) -> Slope
-    requires { ⌜ (s .rest < span) × (rise ≤ span) × (span ≤ 65536) × (s .at < 65536) ⌝ }
-    ensures { λ r. ⌜ (r .at * span + r .rest ≡ s .at * span + s .rest + rise) × (r .rest < span)
-        × (r .at ≤ s .at + 1) ⌝ }
-{
-    let sum = s.rest + rise;
-    if sum < span {
+    if i == 0 {
         return Slope {
-            at: s.at,
-            rest: sum,
+            at: 0,
+            rest: axes.larger,
         };
     }
+    let sum = 2 * i * axes.smaller + axes.larger;
+    let span = 2 * axes.larger;
     Slope {
-        at: s.at + 1,
-        rest: sum - span,
+        at: sum / span,
+        rest: sum % span,
     }
 }
 
-// The slope at a line's first pixel or the one after it, where the rest begins with n.
-pub fn slope_from(first: usize, n: usize, rise: usize, span: usize) -> Slope
-    requires { ⌜ (first ≤ 1) × (n < span) × (rise ≤ span) × (span ≤ 65536) ⌝ }
-    ensures { λ r. ⌜ (r .at * span + r .rest ≡ first * rise + n) × (r .rest < span) × (r .at ≤ first) ⌝ }
+// The first pixel of a line whose minor offset is a or more; the one after the last if there is none.
+pub fn reach(axes: Axes, a: usize) -> usize
+    requires { ⌜ Sloped axes ⌝ }
+    ensures { λ r. ⌜ Reaches axes a r ⌝ }
 {
-    let start = Slope { at: 0, rest: n };
-    if first == 0 {
-        return start;
+    if a == 0 {
+        return 0;
     }
-    climb(start, rise, span)
+    if axes.smaller < a {
+        return axes.larger + 1;
+    }
+    let rise = 2 * axes.smaller;
+    (2 * axes.larger * a - axes.larger + (rise - 1)) / rise
 }

@@ -109,7 +109,7 @@ module _ (s : Surface) (buffer : List ℕ) (x y : ℕ) (d : Drawable s buffer x 
         pixels-in s buffer x y (inside-of s x y (d .column) (d .row))
         ∙ ap₂ (λ (a k : ℕ). num (s .bits) (λ i. bit (getD buffer a 0) (k + i))) at-is shift-is
 
-    change-at : (new : ℕ → ℕ) → change s (record { x = x; y = y; new = new }) buffer ≡ updated (p .at) (replaced (p .shift) (s .bits) new) buffer
+    pub change-at : (new : ℕ → ℕ) → change s (record { x = x; y = y; new = new }) buffer ≡ updated (p .at) (replaced (p .shift) (s .bits) new) buffer
     change-at new =
         change-in s (record { x = x; y = y; new = new }) buffer (inside-of s x y (d .column) (d .row))
         ∙ ap₂ (λ (a k : ℕ). updated a (replaced k (s .bits) new) buffer) at-is shift-is

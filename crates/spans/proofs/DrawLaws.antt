@@ -34,9 +34,9 @@ use Rattle.strips.proofs.FieldBits.{Bytes, changes-bytes}
 use Rattle.strips.proofs.StretchLaws.{true-false, rowByte, stretched-same, stretched-by}
 use Rattle.strips.proofs.RowLaws.{row-is, sized}
 use Rattle.strips.proofs.DottedLaws.{woven-dotted}
-use Rattle.strips.proofs.DotLaws.{Cut, left-lt, left-twice}
+use Rattle.strips.proofs.DotLaws.{Cut, cut-window, left-lt, left-twice}
 use Rattle.strips.proofs.HitLaws.{shown-cong, shown-from, shown-le}
-use Rattle.strips.proofs.SpanLaws.{right-phase, left-phase, span-stretched, span-hits}
+use Rattle.strips.proofs.SpanLaws.{right-phase, left-phase, span-stretched, pattern-hits}
 use Rattle.spans.specs.declared.Span.{Span}
 use Rattle.spans.specs.Spans.{spanPlace, spanDot, spanDots, EdgesOf, Met, Strung, Reached, leftmostOf, phaseOf, spanChanged}
 
@@ -52,7 +52,7 @@ seen-from pattern index n =
 
 -- ## Where a pixel lies
 
-index-unbiased : (a : ℕ) → index (unbiased a) ≡ a - 65536
+pub index-unbiased : (a : ℕ) → index (unbiased a) ≡ a - 65536
 index-unbiased a = split (ltb a 65536)
     (λ e. let l = ltb-true a 65536 e in rw e (omega arith))
     (λ e. rw e refl)
@@ -194,8 +194,8 @@ module _ (u : Surface) (clip : Clip) (s : Span) (e : Edges) (wide : clip .xmax <
           ≡ cond (pen .transparent) (shown (patternOn (pen .pattern)) (s .index + e .first) (e .second - e .first)) (e .second - e .first)
       unfolding spanDots
       drawn-hits = split (s .left)
-          (λ r. span-hits pen (s .index) (left-cut r) (λ k l. sources k) sights)
-          (λ r. span-hits pen (s .index) (right-cut r) (λ k l. sources k) sights)
+          (λ r. pattern-hits pen (s .index) (cut-window (left-cut r)) (λ k l. sources k) sights)
+          (λ r. pattern-hits pen (s .index) (cut-window (right-cut r)) (λ k l. sources k) sights)
 
       -- what the strips make of the row is what the dots change
       module _ (pattern : ℕ) (met : Met (s .left) (pen .pattern) pattern) where
@@ -233,7 +233,7 @@ module _ (u : Surface) (clip : Clip) (s : Span) (e : Edges) (wide : clip .xmax <
 -- ## On both buffers
 
 -- dots of which none is visible
-unseen : (t : Target) (f : ℕ → Dot) (n i : ℕ) (c : Canvas) → ((k : ℕ) → i ≤ k → k < i + n → visible (t .area .surface) (t .clip) (f k) ≡ false)
+pub unseen : (t : Target) (f : ℕ → Dot) (n i : ℕ) (c : Canvas) → ((k : ℕ) → i ≤ k → k < i + n → visible (t .area .surface) (t .clip) (f k) ≡ false)
     → paintedAll t (listed i n f) c ≡ c
 unfolding paintedAll listed painted
 unseen t f zero i c h = refl
@@ -321,17 +321,25 @@ screen-fits {t} screen store r o = subst (λ (l : List ℕ). Fits (t .area .surf
 pub store-fits : {t : Target} (screen store : List ℕ) → Ready t (length screen) (length store) → t .area .onscreen ≡ false → Fits (t .area .surface) store
 store-fits {t} screen store r o = subst (λ (l : List ℕ). Fits (t .area .surface) l) (cond-false screen store o) (ready-fits screen store r)
 
--- both buffers after the visible part is drawn
+-- both buffers after dots are drawn
+pub dots-painted : (t : Target) (ds : List Dot) (screen store : List ℕ) (before count : ℕ) → hits (t .area .surface) (t .clip) ds ≡ count
+    → t .picking ≡ false → {screen′ store′ : List ℕ}
+    → screen′ ≡ cond (t .area .onscreen) (changes (t .area .surface) (changesOf (t .area .surface) (t .clip) (t .pen) ds) screen) screen
+    → store′ ≡ cond (t .area .onscreen) store (changes (t .area .surface) (changesOf (t .area .surface) (t .clip) (t .pen) ds) store)
+    → canvas screen′ store′ (before + count) ≡ paintedAll t ds (canvas screen store before)
+dots-painted t ds screen store before count h p {screen′} {store′} a b = split (t .area .onscreen)
+    (λ o. ap (λ (l : List ℕ). canvas screen′ l (before + count)) (b ∙ cond-true _ _ o)
+    ∙ screen-painted t ds screen store before count h p o (a ∙ cond-true _ _ o))
+    (λ o. ap (λ (l : List ℕ). canvas l store′ (before + count)) (a ∙ cond-false _ _ o)
+    ∙ store-painted t ds screen store before count h p o (b ∙ cond-false _ _ o))
+
+-- .. and after the visible part of a span is
 pub part-painted : (t : Target) (s : Span) (screen store : List ℕ) (before count : ℕ) → hits (t .area .surface) (t .clip) (spanDots (t .pen) s) ≡ count
     → t .picking ≡ false → {screen′ store′ : List ℕ} → screen′ ≡ cond (t .area .onscreen) (spanChanged t s screen) screen
     → store′ ≡ cond (t .area .onscreen) store (spanChanged t s store)
     → canvas screen′ store′ (before + count) ≡ paintedAll t (spanDots (t .pen) s) (canvas screen store before)
 unfolding spanChanged
-part-painted t s screen store before count h p {screen′} {store′} a b = split (t .area .onscreen)
-    (λ o. ap (λ (l : List ℕ). canvas screen′ l (before + count)) (b ∙ cond-true _ _ o)
-    ∙ screen-painted t (spanDots (t .pen) s) screen store before count h p o (a ∙ cond-true _ _ o))
-    (λ o. ap (λ (l : List ℕ). canvas l store′ (before + count)) (a ∙ cond-false _ _ o)
-    ∙ store-painted t (spanDots (t .pen) s) screen store before count h p o (b ∙ cond-false _ _ o))
+part-painted t s screen store before count h p a b = dots-painted t (spanDots (t .pen) s) screen store before count h p a b
 
 -- at most all of a span's pixels are visible
 pub seen-most : (t : Bool) (on : ℕ → Bool) (i n : ℕ) → cond t (shown on i n) n ≤ n

@@ -90,7 +90,7 @@ fn phase_of(s: Span, e: Edges, c: usize) -> usize
 }
 
 // How many of n pixels from a pattern index on are drawn.
-fn seen_of(pen: Pen, index: usize, n: usize) -> usize
+pub fn seen_of(pen: Pen, index: usize, n: usize) -> usize
     requires { ⌜ n ≤ longestSpan ⌝ }
     ensures { λ r. ⌜ r ≡ cond (pen .transparent) (shown (patternOn (pen .pattern)) index n) n ⌝ }
 {

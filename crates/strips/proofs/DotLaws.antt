@@ -16,6 +16,7 @@ use Rattle.model.specs.declared.Surface.{Surface}
 use Rattle.model.specs.declared.Pen.{Pen}
 use Rattle.strips.specs.Stretches.{Stretched}
 use Rattle.strips.proofs.StrokeLaws.{inked, dotStrokes, dots-strokes, run-stroked}
+use Rattle.strips.proofs.WindowLaws.{Window}
 use Rattle.strips.proofs.StretchLaws.{Along, rowByte, true-false, along-once, drawn-stretched}
 
 -- of N dots those from i on, n of them, are at x .. x + n - 1 of row y, in an order, and no other is visible
@@ -35,6 +36,9 @@ module _ {u : Surface} {clip : Clip} {f : ℕ → Dot} {order : ℕ → ℕ} {x 
       go (yes a) _ = absurd (true-false (sym e ∙ c .hidden p l (inl a)))
       go (no a) (yes b) = (omega arith, b)
       go (no a) (no b) = absurd (true-false (sym e ∙ c .hidden p l (inr (omega arith))))
+
+  pub cut-window : Window u clip f i n N
+  cut-window = record { most = c .most; hidden = c .hidden }
 
   pub along-cut : Along (dotStrokes u clip f) x y n N (λ q. i + order q)
   along-cut = record {

@@ -1,4 +1,4 @@
--- Dots counted: the visible ones of a run cut to the clip, and the 1s of a pattern, which repeats.
+-- Dots counted: the visible ones of a window, and the 1s of a pattern, which repeats.
 use mathlib.Core.Path.{_≡_, refl, sym, ap, ap₂, _∙_}
 use mathlib.Core.Logic.{inl, inr}
 use mathlib.Core.Bool.{Bool, true, false}
@@ -16,7 +16,7 @@ use Rattle.raster.proofs.BitLaws.{bit-mod, digit-odd}
 use Rattle.strips.specs.Strips.{RotatedLeft}
 use Rattle.strips.specs.Strokes.{shown, patternOn}
 use Rattle.strips.proofs.BitParts.{bit-beyond}
-use Rattle.strips.proofs.DotLaws.{Cut}
+use Rattle.strips.proofs.WindowLaws.{Window}
 
 -- ## A count in parts
 
@@ -91,10 +91,10 @@ unfolding hits listed shown
 hits-shown u clip f zero i = refl
 hits-shown u clip f (suc n) i = ap (λ (z : ℕ). digit (visible u clip (f i)) + z) (hits-shown u clip f n (suc i))
 
--- only the dots that the clip leaves count
-pub cut-hits : {u : Surface} {clip : Clip} {f : ℕ → Dot} {order : ℕ → ℕ} {x y i n N : ℕ} → Cut u clip f order x y i n N
+-- only the dots of the window count
+pub window-hits : {u : Surface} {clip : Clip} {f : ℕ → Dot} {i n N : ℕ} → Window u clip f i n N
     → hits u clip (listed 0 N f) ≡ shown (λ k. visible u clip (f k)) i n
-cut-hits {u} {clip} {f} {order} {x} {y} {i} {n} {N} c =
+window-hits {u} {clip} {f} {i} {n} {N} c =
     let on : ℕ → Bool = λ k. visible u clip (f k) in
     let e : N ≡ i + (n + (N - (i + n))) = omega (arith, c .most) in
     let z : 0 + i ≡ i = omega arith in

@@ -2,6 +2,7 @@
 pub mod FieldBits
 pub mod BitParts
 pub mod StrokeLaws
+pub mod WindowLaws
 pub mod FillLaws
 pub mod StretchLaws
 pub mod MixLaws

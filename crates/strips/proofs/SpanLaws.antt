@@ -18,8 +18,9 @@ use Rattle.strips.specs.Stretches.{across, Stretched}
 use Rattle.strips.specs.Strips.{Reversed}
 use Rattle.strips.proofs.StretchLaws.{rowByte, column-at, shift-at}
 use Rattle.strips.proofs.DottedLaws.{dotted, source-inked}
+use Rattle.strips.proofs.WindowLaws.{Window}
 use Rattle.strips.proofs.DotLaws.{Cut, dots-stretched}
-use Rattle.strips.proofs.HitLaws.{shown-cong, shown-from, shown-all, cut-hits}
+use Rattle.strips.proofs.HitLaws.{shown-cong, shown-from, shown-all, window-hits}
 
 -- ## A pattern over the columns, by its index at the row's first
 
@@ -82,13 +83,13 @@ source-seen pen false true = refl
 source-seen pen false false = refl
 
 -- of dots whose pattern index is k + their number: the pattern's 1s if transparent, else all
-pub span-hits : {u : Surface} {clip : Clip} {f : ℕ → Dot} {order : ℕ → ℕ} {x y i n N : ℕ} (pen : Pen) (k : ℕ)
-    → Cut u clip f order x y i n N
+pub pattern-hits : {u : Surface} {clip : Clip} {f : ℕ → Dot} {i n N : ℕ} (pen : Pen) (k : ℕ)
+    → Window u clip f i n N
     → ((p : ℕ) → p < N → f p .source ≡ patternSource pen (k + p))
     → ((p : ℕ) → p < n → visible u clip (f (i + p)) ≡ something (f (i + p) .source))
     → hits u clip (listed 0 N f) ≡ cond (pen .transparent) (shown (patternOn (pen .pattern)) (k + i) n) n
-span-hits {u} {clip} {f} {order} {x} {y} {i} {n} {N} pen k c sources sights =
-    cut-hits c ∙ shown-from (λ p. visible u clip (f p)) n i
+pattern-hits {u} {clip} {f} {i} {n} {N} pen k c sources sights =
+    window-hits c ∙ shown-from (λ p. visible u clip (f p)) n i
     ∙ split (pen .transparent)
     (λ t. shown-cong (λ q. visible u clip (f (i + q))) (λ q. patternOn (pen .pattern) (k + i + q)) n 0 (λ q a b. seen q (omega arith) ∙ rw t refl)
     ∙ sym (shown-from (patternOn (pen .pattern)) n (k + i)) ∙ rw t refl)

@@ -47,7 +47,7 @@ once-next i n o = record {
   once = λ p q a b c d. o .once p q (omega arith) (omega arith) (omega arith) (omega arith);
 }
 
-changes-keep : (u : Surface) (t : Bool) (c : Change) (cs : List Change) (s : List ℕ) → changes u (keep t c cs) s ≡ changes u cs (cond t (change u c s) s)
+pub changes-keep : (u : Surface) (t : Bool) (c : Change) (cs : List Change) (s : List ℕ) → changes u (keep t c cs) s ≡ changes u cs (cond t (change u c s) s)
 unfolding changes
 changes-keep u true c cs s = refl
 changes-keep u false c cs s = refl

@@ -31,7 +31,7 @@ fn under(over: u64, fore: u16, back: u16) -> u64
 }
 
 // Eight bytes put at a byte, the low one first.
-fn put(strips: &mut [u8], at: usize, x: u64)
+pub fn put(strips: &mut [u8], at: usize, x: u64)
     requires { ⌜ at + 8 ≤ length (now strips) ⌝ }
     ensures { λ _. ⌜ Put 8 at x (now (strips .entry)) (now (strips .exit)) ⌝ }
 {

@@ -5,14 +5,14 @@ use Rattle.model.specs.Circles.{circle}
 use Rattle.draw_circles.proofs.circle.Statement.{statement}
 use Rattle.draw_circles.proofs.circle.Tie as tie
 
-ring-requires : tie.Need-ring-requires
-ring-requires c κs = let m = c .before .before in (m .before .before .before .pre, m .magnitude .ensures .1)
+draw-circle-requires : tie.Need-draw-circle-requires
+draw-circle-requires c κs = let m = c .before .before in (m .before .before .before .pre, m .magnitude .ensures .1)
 
 returns : tie.Need-returns
 unfolding circle
 returns c =
     let d = c .before .before .before .before in
-    record { dots = rw (sym (d .before .before .before .magnitude .ensures .0)) (d .ring .ensures); position = refl; trap = refl }
+    record { dots = rw (sym (d .before .before .before .magnitude .ensures .0)) (d .draw-circle .ensures); position = refl; trap = refl }
 
 pub circle-spec : {M : Type 1} → statement M
-circle-spec = tie.close (tie.spec (λ c κs. search needs) ring-requires (λ c. search needs) (λ c. search needs) returns)
+circle-spec = tie.close (tie.spec (λ c κs. search needs) draw-circle-requires (λ c. search needs) (λ c. search needs) returns)
