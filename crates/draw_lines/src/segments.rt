@@ -22,7 +22,7 @@ use coordinates::Edges;
 use model::Point;
 use spans::Span;
 
-// The length from which a horizontal line is drawn as a span: a shorter one is drawn sooner dot by dot than its
+// The length from which a horizontal line is drawn as a span: a shorter one is drawn sooner pixel by pixel than its
 // strips are worked out.
 const SHORTEST_SPAN: usize = 16;
 

@@ -1,4 +1,4 @@
--- `draw_lines::segments::draw_segment` meets its contract: a long horizontal segment is a span, and any other goes dot by dot.
+-- `draw_lines::segments::draw_segment` meets its contract: a long horizontal segment is a span, and any other goes pixel by pixel.
 use borrow.Author.Needs.{needs}
 use Rattle.draw_lines.proofs.segments.draw_segment.Statement.{statement}
 use Rattle.draw_lines.proofs.segments.draw_segment.Tie as tie
