@@ -35,10 +35,10 @@ use Rattle.strips.specs.Strips.{RotatedLeft}
 use Rattle.strips.specs.Strokes.{shown, patternOn}
 use Rattle.strips.proofs.SpanLaws.{pattern-hits}
 use Rattle.strips.proofs.FieldBits.{Bytes, changes-bytes}
-use Rattle.strips.proofs.HitLaws.{digit-bit}
 use Rattle.strips.proofs.WindowLaws.{Window, plotted, drawnDots, drawn-next, window-drawn}
 use Rattle.stamps.specs.Stamps.{StampsOf, stampByte, stamped}
 use Rattle.stamps.proofs.StampLaws.{stamped-change, stamp-in}
+use Rattle.stamps.proofs.TrailLaws.{rotated-on, first-digit}
 use Rattle.draw_lines.specs.declared.segments.Segment.{Segment}
 use Rattle.draw_lines.specs.declared.slopes.Axes.{Axes}
 use Rattle.draw_lines.specs.declared.walks.Gait.{Gait}
@@ -47,22 +47,6 @@ use Rattle.draw_lines.specs.Edges.{LineEdges}
 use Rattle.draw_lines.specs.Segments.{traceAt, traceDot}
 use Rattle.draw_lines.specs.Walks.{columnOn, rowOn, Located, Locatable, SpotAt, gaitOf, Treads, nextSpot, Walkable, traced}
 use Rattle.draw_lines.proofs.WalkLaws.{walk-treads, walk-spot}
-
--- ## A pattern bit by bit
-
-pub rotated-on : (pattern n p q : ℕ) → RotatedLeft pattern n p → RotatedLeft p 1 q → RotatedLeft pattern (n + 1) q
-rotated-on pattern n p q f g k = g k ∙ f (k + 1) ∙ (let e : k + 1 + n ≡ k + (n + 1) = omega arith in ap (λ (m : ℕ). bit pattern (15 - m % 16)) e)
-
--- rotated by more than its sixteen bits
-pub rotated-whole : (pattern n p : ℕ) → RotatedLeft pattern (n % 16) p → RotatedLeft pattern n p
-rotated-whole pattern n p f k = f k ∙ (let e : (k + n % 16) % 16 ≡ (k + n) % 16 = omega arith in ap (λ (m : ℕ). bit pattern (15 - m)) e)
-
--- its first bit as a number
-first-digit : (pattern n p : ℕ) → p < 65536 → RotatedLeft pattern n p → p / 32768 ≡ digit (bit pattern (15 - n % 16))
-first-digit pattern n p h f =
-    let e : p / 32768 ≡ p / 2 ^ 15 % 2 = omega arith in
-    let z : 0 + n ≡ n = omega arith in
-    e ∙ sym (digit-bit p 15) ∙ ap digit (f 0 ∙ ap (λ (m : ℕ). bit pattern (15 - m % 16)) z)
 
 -- ## Where a visible pixel lies
 

@@ -1,3 +1,4 @@
 -- Laws of RECT's outline.
 pub mod RectLaws
 pub mod SideLaws
+pub mod UprightLaws

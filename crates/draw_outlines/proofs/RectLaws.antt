@@ -86,14 +86,14 @@ module _ (a b i k : ℕ) where
   pub side1 : i ≡ k → k < suc a → offsetBy k 0 ≡ outlineAt a b i
   side1 e h = rw (e, le-leb k a (omega arith))
 
-  side2 : i ≡ suc a + k → k < b → offsetBy a (1 + k) ≡ outlineAt a b i
+  pub side2 : i ≡ suc a + k → k < b → offsetBy a (1 + k) ≡ outlineAt a b i
   side2 e h = rw (lt-leb i a (omega arith), le-leb i (a + b) (omega arith)) (ap (offsetBy a) (omega arith))
 
   pub side3 : i ≡ suc a + b + k → k < a → offsetBy (a - (1 + k)) b ≡ outlineAt a b i
   side3 e h =
       rw (lt-leb i a (omega arith), lt-leb i (a + b) (omega arith), le-leb i (a + b + a) (omega arith)) (ap (λ (x : ℕ). offsetBy x b) (omega arith))
 
-  side4 : i ≡ suc a + b + a + k → k < b - 1 → offsetBy 0 (b - (1 + k)) ≡ outlineAt a b i
+  pub side4 : i ≡ suc a + b + a + k → k < b - 1 → offsetBy 0 (b - (1 + k)) ≡ outlineAt a b i
   side4 e h =
       rw (lt-leb i a (omega arith), lt-leb i (a + b) (omega arith), lt-leb i (a + b + a) (omega arith)) (ap (offsetBy 0) (omega arith))
 

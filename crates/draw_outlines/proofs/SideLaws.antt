@@ -1,5 +1,5 @@
--- Parts of an outline: one after the other they are drawn as one, and its level sides are spans.
-use mathlib.Core.Path.{_≡_, refl, sym, ap, _∙_}
+-- Parts of an outline: one after the other they are drawn as one, its level sides are spans, and its upright sides upright runs.
+use mathlib.Core.Path.{_≡_, refl, sym, ap, ap₂, _∙_}
 use mathlib.Core.Bool.{Bool, true, false, cond, not, _||_}
 use mathlib.Core.List.{[], append-nil}
 use Prim.Native.Nat.{ℕ, _+_, _-_, _≤_, _<_}
@@ -21,8 +21,10 @@ use Rattle.canvas.proofs.CanvasLaws.{paintedAll-append}
 use Rattle.spans.specs.declared.Span.{Span}
 use Rattle.spans.specs.Spans.{Bounded, spanDot, spanDots}
 use Rattle.draw_outlines.specs.declared.Outline.{Outline}
-use Rattle.draw_outlines.specs.Outlines.{Small, SideOf, outlineDot, outlineLength}
-use Rattle.draw_outlines.proofs.RectLaws.{listed-part, side1, side3}
+use Rattle.draw_outlines.specs.declared.uprights.Upright.{Upright}
+use Rattle.draw_outlines.specs.Uprights.{uprightDot, uprightDots, Erect}
+use Rattle.draw_outlines.specs.Outlines.{Small, SideOf, UprightOf, outlineDot, outlineLength}
+use Rattle.draw_outlines.proofs.RectLaws.{listed-part, side1, side2, side3, side4}
 
 -- ## One part after the other
 
@@ -49,6 +51,12 @@ directed-none : (z : ℤ) (back : Bool) → z +ℤ directed back 0 ≡ z
 directed-none z false = +ℤ-idr z
 directed-none z true = +ℤ-idr z
 
+-- some steps, and then more
+directed-more : (z : ℤ) (back : Bool) (m k : ℕ) → z +ℤ directed back m +ℤ directed back k ≡ z +ℤ directed back (m + k)
+directed-more z false m k = +ℤ-assoc z (pos m) (pos k)
+directed-more z true m k =
+    +ℤ-assoc z (negℤ (pos m)) (negℤ (pos k)) ∙ ap (λ (w : ℤ). z +ℤ w) (sym (negℤ-+ℤ (pos m) (pos k)))
+
 -- some steps, and then no more than these the other way
 directed-return : (z : ℤ) (back : Bool) (m k : ℕ) → k ≤ m → z +ℤ directed back m +ℤ directed (not back) k ≡ z +ℤ directed back (m - k)
 directed-return z false m k h =
@@ -63,22 +71,34 @@ directed-return z true m k h =
     ∙ ap (λ (w : ℤ). w +ℤ pos k) (sym (+ℤ-assoc z (negℤ (pos (m - k))) (negℤ (pos k))))
     ∙ -ℤ-+ℤ-cancel (z +ℤ negℤ (pos (m - k))) (pos k)
 
--- ## The level sides
+-- ## The sides
+
+-- the first n of one list are those of another from i on
+listed-from : {A : Type 0} (f g : ℕ → A) (i n : ℕ) → ((k : ℕ) → k < n → f k ≡ g (i + k)) → listed 0 n f ≡ listed i n g
+unfolding listed
+listed-from f g i n h =
+    let e : n + 0 ≡ n = omega arith in
+    sym (append-nil _) ∙ listed-part n 0 i 0 f g [] (λ k l. rw (zero-add k) (h k l)) refl ∙ ap (λ (m : ℕ). listed i m g) e
 
 -- a span whose pixels are the outline's from pixel i on
-side-of : (o : Outline) (i : ℕ) (s : Span) → Bounded s → ((pen : Pen) (k : ℕ) → k < s .count → spanDot pen s k ≡ outlineDot pen o (i + k))
-    → SideOf o i (s .count) s
-unfolding spanDots listed
-side-of o i s b h = record { bounded = b; dots = same }
-  where
-    same : (pen : Pen) → listed 0 (s .count) (spanDot pen s) ≡ listed i (s .count) (outlineDot pen o)
-    same pen =
-        let e : s .count + 0 ≡ s .count = omega arith in
-        sym (append-nil _)
-        ∙ listed-part (s .count) 0 i 0 (spanDot pen s) (outlineDot pen o) [] (λ k l. rw (zero-add k) (h pen k l)) refl
-        ∙ ap (λ (m : ℕ). listed i m (outlineDot pen o)) e
+side-of : (o : Outline) (i n : ℕ) (s : Span) → Bounded s → s .count ≡ n → ((pen : Pen) (k : ℕ) → k < n → spanDot pen s k ≡ outlineDot pen o (i + k))
+    → SideOf o i n s
+unfolding spanDots
+side-of o i n s b e h = record {
+  bounded = b;
+  dots = λ pen. ap (λ (m : ℕ). listed 0 m (spanDot pen s)) e ∙ listed-from (spanDot pen s) (outlineDot pen o) i n (h pen);
+}
 
-module _ (o : Outline) (s : Span) (h : Small o) (lx : s .x < 131072) (ly : s .y < 131072) where
+-- .. and such an upright run
+upright-of : (o : Outline) (i n : ℕ) (s : Upright) → Erect s → s .count ≡ n
+    → ((pen : Pen) (k : ℕ) → k < n → uprightDot pen s k ≡ outlineDot pen o (i + k)) → UprightOf o i n s
+unfolding uprightDots
+upright-of o i n s b e h = record {
+  erect = b;
+  dots = λ pen. ap (λ (m : ℕ). listed 0 m (uprightDot pen s)) e ∙ listed-from (uprightDot pen s) (outlineDot pen o) i n (h pen);
+}
+
+module _ (o : Outline) (h : Small o) where
   -- where the outline starts, and its course along each axis
   abbrev startX : ℤ
   startX = coord (o .course .from .x)
@@ -92,37 +112,73 @@ module _ (o : Outline) (s : Span) (h : Small o) (lx : s .x < 131072) (ly : s .y 
   abbrev up : Bool
   up = o .course .heading .up
 
-  -- the first side
-  pub side-top : unbiased (s .x) ≡ startX +ℤ pos 0 → unbiased (s .y) ≡ startY +ℤ pos 0
-      → s .left ≡ left → s .count ≡ o .a + 1 → s .index ≡ 0 → SideOf o 0 (s .count) s
-  unfolding spanDot outlineDot
-  side-top ex ey el ec ei =
-      side-of o 0 s (record { x = omega arith; y = omega arith; count = omega (arith, h .a); index = omega arith })
-      (λ pen k l. rw (el, ei, ex, ey, +ℤ-idr startX, +ℤ-idr startY)
-      (ap (λ q. dot q (patternSource pen (0 + k)))
-      (ap (at (startX +ℤ directed left k)) (sym (directed-none startY up))
-      ∙ ap (placeOn (o .course)) (side1 (o .a) (o .b) (0 + k) k (zero-add k) (omega arith)))))
+  module _ (s : Span) (lx : s .x < 131072) (ly : s .y < 131072) where
+    -- the first side
+    pub side-top : unbiased (s .x) ≡ startX +ℤ pos 0 → unbiased (s .y) ≡ startY +ℤ pos 0
+        → s .left ≡ left → s .count ≡ o .a + 1 → s .index ≡ 0 → SideOf o 0 (o .a + 1) s
+    unfolding spanDot outlineDot
+    side-top ex ey el ec ei =
+        side-of o 0 (o .a + 1) s (record { x = omega arith; y = omega arith; count = omega (arith, h .a); index = omega arith }) ec
+        (λ pen k l. rw (el, ei, ex, ey, +ℤ-idr startX, +ℤ-idr startY)
+        (ap (λ q. dot q (patternSource pen (0 + k)))
+        (ap (at (startX +ℤ directed left k)) (sym (directed-none startY up))
+        ∙ ap (placeOn (o .course)) (side1 (o .a) (o .b) (0 + k) k (zero-add k) (omega arith)))))
 
-  -- the third side
-  pub side-bottom : unbiased (s .x) ≡ startX +ℤ directed left (o .a - 1) → unbiased (s .y) ≡ startY +ℤ directed up (o .b)
-      → s .left ≡ not left → s .count ≡ o .a → s .index ≡ o .a + o .b + 1 → SideOf o (o .a + o .b + 1) (s .count) s
-  unfolding spanDot outlineDot
-  side-bottom ex ey el ec ei =
-      side-of o (o .a + o .b + 1) s (record { x = omega arith; y = omega arith; count = omega (arith, h .a); index = omega (arith, h .a, h .b) })
-      (λ pen k l.
-      let e : o .a - 1 - k ≡ o .a - (1 + k) = omega arith in
-      rw (el, ei, ex, ey)
-      (ap (λ q. dot q (patternSource pen (o .a + o .b + 1 + k)))
-      (ap (λ (z : ℤ). at z (startY +ℤ directed up (o .b)))
-      (directed-return startX left (o .a - 1) k (omega arith) ∙ ap (λ (m : ℕ). startX +ℤ directed left m) e)
-      ∙ ap (placeOn (o .course)) (side3 (o .a) (o .b) (o .a + o .b + 1 + k) k (omega arith) (omega arith)))))
+    -- the third side
+    pub side-bottom : unbiased (s .x) ≡ startX +ℤ directed left (o .a - 1) → unbiased (s .y) ≡ startY +ℤ directed up (o .b)
+        → s .left ≡ not left → s .count ≡ o .a → s .index ≡ o .a + o .b + 1 → SideOf o (o .a + o .b + 1) (o .a) s
+    unfolding spanDot outlineDot
+    side-bottom ex ey el ec ei =
+        side-of o (o .a + o .b + 1) (o .a) s
+        (record { x = omega arith; y = omega arith; count = omega (arith, h .a); index = omega (arith, h .a, h .b) }) ec
+        (λ pen k l.
+        let e : o .a - 1 - k ≡ o .a - (1 + k) = omega arith in
+        rw (el, ei, ex, ey)
+        (ap (λ q. dot q (patternSource pen (o .a + o .b + 1 + k)))
+        (ap (λ (z : ℤ). at z (startY +ℤ directed up (o .b)))
+        (directed-return startX left (o .a - 1) k (omega arith) ∙ ap (λ (m : ℕ). startX +ℤ directed left m) e)
+        ∙ ap (placeOn (o .course)) (side3 (o .a) (o .b) (o .a + o .b + 1 + k) k (omega arith) (omega arith)))))
+
+  module _ (s : Upright) (lx : s .x < 131072) (ly : s .y < 131072) where
+    -- the second side
+    pub side-right : unbiased (s .x) ≡ startX +ℤ directed left (o .a) → unbiased (s .y) ≡ startY +ℤ directed up 1
+        → s .up ≡ up → s .count ≡ o .b → s .index ≡ o .a + 1 → UprightOf o (o .a + 1) (o .b) s
+    unfolding uprightDot outlineDot
+    side-right ex ey eu ec ei =
+        upright-of o (o .a + 1) (o .b) s (record { x = omega arith; y = omega arith; count = omega (arith, h .b); index = omega (arith, h .a) }) ec
+        (λ pen k l. rw (eu, ei, ex, ey)
+        (ap (λ q. dot q (patternSource pen (o .a + 1 + k)))
+        (ap (at (startX +ℤ directed left (o .a))) (directed-more startY up 1 k)
+        ∙ ap (placeOn (o .course)) (side2 (o .a) (o .b) (o .a + 1 + k) k (omega arith) l))))
+
+    -- the last side
+    pub side-left : unbiased (s .x) ≡ startX +ℤ pos 0 → unbiased (s .y) ≡ startY +ℤ directed up (o .b - 1)
+        → s .up ≡ not up → s .count ≡ o .b - 1 → s .index ≡ o .a + o .b + 1 + o .a → UprightOf o (o .a + o .b + 1 + o .a) (o .b - 1) s
+    unfolding uprightDot outlineDot
+    side-left ex ey eu ec ei =
+        upright-of o (o .a + o .b + 1 + o .a) (o .b - 1) s
+        (record { x = omega arith; y = omega arith; count = omega (arith, h .b); index = omega (arith, h .a, h .b) }) ec
+        (λ pen k l.
+        let e : o .b - 1 - k ≡ o .b - (1 + k) = omega arith in
+        rw (eu, ei, ex, ey, +ℤ-idr startX)
+        (ap (λ q. dot q (patternSource pen (o .a + o .b + 1 + o .a + k)))
+        (ap₂ at (sym (directed-none startX left))
+        (directed-return startY up (o .b - 1) k (omega arith) ∙ ap (λ (m : ℕ). startY +ℤ directed up m) e)
+        ∙ ap (placeOn (o .course)) (side4 (o .a) (o .b) (o .a + o .b + 1 + o .a + k) k (omega arith) l))))
 
 -- .. drawn
 pub side-painted : (t : Target) (o : Outline) (i n : ℕ) {s : Span} (c : Canvas) {c′ : Canvas} → SideOf o i n s → Painted t (spanDots (t .pen) s) c c′
     → Painted t (listed i n (outlineDot (t .pen) o)) c c′
 side-painted t o i n c w e = e ∙ ap (λ ds. paintedAll t ds c) (w .dots (t .pen))
 
+pub upright-painted : (t : Target) (o : Outline) (i n : ℕ) {s : Upright} (c : Canvas) {c′ : Canvas} → UprightOf o i n s
+    → Painted t (uprightDots (t .pen) s) c c′ → Painted t (listed i n (outlineDot (t .pen) o)) c c′
+upright-painted t o i n c w e = e ∙ ap (λ ds. paintedAll t ds c) (w .dots (t .pen))
+
 -- ## How many pixels there are
+
+pub length-narrow : (a b : ℕ) → a ≡ 0 → a + b + 1 ≡ outlineLength a b
+length-narrow a b e = rw (eq-eqb a 0 e)
 
 pub length-flat : (a b : ℕ) → b ≡ 0 → a + b + 1 ≡ outlineLength a b
 length-flat a b e = rw (eq-eqb b 0 e) (or-true (eqb a 0))

@@ -1,2 +1,3 @@
 -- What the contracts of `draw_outlines` cite beside model's definitions.
 pub mod Outlines
+pub mod Uprights

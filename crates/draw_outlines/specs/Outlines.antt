@@ -12,6 +12,8 @@ use Rattle.canvas.specs.Targets.{placeOn}
 use Rattle.spans.specs.declared.Span.{Span}
 use Rattle.spans.specs.Spans.{Bounded, spanDots}
 use Rattle.draw_outlines.specs.declared.Outline.{Outline}
+use Rattle.draw_outlines.specs.declared.uprights.Upright.{Upright}
+use Rattle.draw_outlines.specs.Uprights.{Erect, uprightDots}
 
 -- the sides are magnitudes of 16-bit offsets
 pub record Small (o : Outline) : Type 0 where
@@ -45,3 +47,8 @@ outlineDot pen o i = dot (placeOn (o .course) (outlineAt (o .a) (o .b) i)) (patt
 pub record SideOf (o : Outline) (i n : ℕ) (s : Span) : Type 0 where
   pub bounded : Bounded s
   pub dots : (pen : Pen) → spanDots pen s ≡ listed i n (outlineDot pen o)
+
+-- .. and so is an upright run
+pub record UprightOf (o : Outline) (i n : ℕ) (s : Upright) : Type 0 where
+  pub erect : Erect s
+  pub dots : (pen : Pen) → uprightDots pen s ≡ listed i n (outlineDot pen o)

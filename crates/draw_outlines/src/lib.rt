@@ -1,4 +1,6 @@
 // RECT: the outline of a rectangle, each pixel once, one pattern index along all four sides.
+pub mod uprights; // uprights.rt: vertical runs of pixels
+
 ghost use mathlib.Core.Path.{_≡_};
 ghost use Prim.Native.Nat.{_+_, _-_, _≤_, _<_};
 ghost use lib.ListN.{length};
@@ -7,18 +9,25 @@ ghost use Rattle.model.specs.Coordinates.{coord};
 ghost use Rattle.model.specs.Lines.{rectangle};
 ghost use Rattle.canvas.specs.Canvas.{canvas, countEnd, Drew, Painted};
 ghost use Rattle.canvas.specs.Targets.{Ready};
+ghost use Rattle.spans.specs.Spans.{longestSpan};
 ghost use Rattle.draw_outlines.specs.Outlines.{longestOutline, outlineAt, outlineDot, outlineLength};
-ghost use Rattle.draw_outlines.specs.Outlines.{SideOf, Small};
+ghost use Rattle.draw_outlines.specs.Outlines.{SideOf, UprightOf, Small};
 use canvas::Course;
 use canvas::Drawn;
 use canvas::Offset;
 use canvas::Target;
 use model::Point;
 use spans::Span;
+use uprights::Upright;
+use uprights::draw_upright;
 
 // The length from which an outline's level sides are drawn as spans: shorter ones are drawn sooner dot by dot
 // than the strips of both are worked out.
-const SHORTEST_SIDE: usize = 32;
+const SHORTEST_SIDE: usize = 16;
+
+// The length from which its upright sides are stamped: shorter ones are drawn sooner dot by dot than the stamps of
+// both are worked out.
+const SHORTEST_UPRIGHT: usize = 8;
 
 // The outline of a rectangle: its course, and its sides a = |dx| and b = |dy|.
 pub struct Outline {
@@ -127,15 +136,104 @@ fn bottom_side(o: Outline) -> Span
     }
 }
 
+// The outline's second side, along y, as an upright run: the corner before it is the first side's.
+fn right_side(o: Outline) -> Upright
+    requires { ⌜ Small o ⌝ }
+    ensures { λ s. ⌜ UprightOf o (o .a + 1) (o .b) s ⌝ }
+{
+    let from = o.course.from;
+    let heading = o.course.heading;
+    let x = coordinates::biased(from.x, heading.left, o.a);
+    let y = coordinates::biased(from.y, heading.up, 1);
+    Upright {
+        x,
+        y,
+        up: heading.up,
+        count: o.b,
+        index: o.a + 1,
+    }
+}
+
+// The outline's last side, back along y, as an upright run between two corners that are other sides'.
+fn left_side(o: Outline) -> Upright
+    requires { ⌜ Small o × (0 < o .b) ⌝ }
+    ensures { λ s. ⌜ UprightOf o (o .a + o .b + 1 + o .a) (o .b - 1) s ⌝ }
+{
+    let from = o.course.from;
+    let heading = o.course.heading;
+    let x = coordinates::biased(from.x, false, 0);
+    let y = coordinates::biased(from.y, heading.up, o.b - 1);
+    let past = o.a + o.b + 1 + o.a;
+    Upright {
+        x,
+        y,
+        up: !heading.up,
+        count: o.b - 1,
+        index: past,
+    }
+}
+
+// The first side drawn, as a span if it is long: how many of its pixels are visible.
+fn draw_top(screen: &mut [u8], store: &mut [u8], t: Target, o: Outline) -> usize
+    requires { ⌜ Ready t (length (now screen)) (length (now store)) × Small o ⌝ }
+    ensures { λ r. ⌜ Painted t (listed 0 (o .a + 1) (outlineDot (t .pen) o))
+        (canvas (now (screen .entry)) (now (store .entry)) 0) (canvas (now (screen .exit)) (now (store .exit)) r) ⌝ }
+{
+    if o.a < SHORTEST_SIDE {
+        return dotted(screen, store, t, o, 0, o.a + 1, 0);
+    }
+    let side = top_side(o);
+    spans::draw_alone(screen, store, t, side, 0)
+}
+
+// The second side drawn, stamped if it is long: hits and how many of its pixels are visible.
+fn draw_right(screen: &mut [u8], store: &mut [u8], t: Target, o: Outline, hits: usize) -> usize
+    requires { ⌜ Ready t (length (now screen)) (length (now store)) × Small o × (hits + longestSpan < countEnd) ⌝ }
+    ensures { λ r. ⌜ Painted t (listed (o .a + 1) (o .b) (outlineDot (t .pen) o))
+        (canvas (now (screen .entry)) (now (store .entry)) hits) (canvas (now (screen .exit)) (now (store .exit)) r) ⌝ }
+{
+    if o.b < SHORTEST_UPRIGHT {
+        return dotted(screen, store, t, o, o.a + 1, o.b, hits);
+    }
+    let side = right_side(o);
+    draw_upright(screen, store, t, side, hits)
+}
+
+// The third side drawn, as a span if it is long: hits and how many of its pixels are visible.
+fn draw_bottom(screen: &mut [u8], store: &mut [u8], t: Target, o: Outline, hits: usize) -> usize
+    requires { ⌜ Ready t (length (now screen)) (length (now store)) × Small o × (hits + longestSpan < countEnd) ⌝ }
+    ensures { λ r. ⌜ Painted t (listed (o .a + o .b + 1) (o .a) (outlineDot (t .pen) o))
+        (canvas (now (screen .entry)) (now (store .entry)) hits) (canvas (now (screen .exit)) (now (store .exit)) r) ⌝ }
+{
+    if o.a < SHORTEST_SIDE {
+        return dotted(screen, store, t, o, o.a + o.b + 1, o.a, hits);
+    }
+    let side = bottom_side(o);
+    spans::draw_alone(screen, store, t, side, hits)
+}
+
+// The last side drawn, stamped if it is long: hits and how many of its pixels are visible.
+fn draw_left(screen: &mut [u8], store: &mut [u8], t: Target, o: Outline, hits: usize) -> usize
+    requires { ⌜ Ready t (length (now screen)) (length (now store)) × Small o × (0 < o .b)
+        × (hits + longestSpan < countEnd) ⌝ }
+    ensures { λ r. ⌜ Painted t (listed (o .a + o .b + 1 + o .a) (o .b - 1) (outlineDot (t .pen) o))
+        (canvas (now (screen .entry)) (now (store .entry)) hits) (canvas (now (screen .exit)) (now (store .exit)) r) ⌝ }
+{
+    if o.b < SHORTEST_UPRIGHT {
+        return dotted(screen, store, t, o, o.a + o.b + 1 + o.a, o.b - 1, hits);
+    }
+    let side = left_side(o);
+    draw_upright(screen, store, t, side, hits)
+}
+
 // The first two sides, to the corner across: how many of their pixels are visible.
 fn way_out(screen: &mut [u8], store: &mut [u8], t: Target, o: Outline) -> usize
     requires { ⌜ Ready t (length (now screen)) (length (now store)) × Small o ⌝ }
     ensures { λ r. ⌜ Painted t (listed 0 (o .a + o .b + 1) (outlineDot (t .pen) o))
         (canvas (now (screen .entry)) (now (store .entry)) 0) (canvas (now (screen .exit)) (now (store .exit)) r) ⌝ }
 {
-    let side = top_side(o);
-    let hits = spans::draw_alone(screen, store, t, side, 0);
-    dotted(screen, store, t, o, o.a + 1, o.b, hits)
+    let hits = draw_top(screen, store, t, o);
+    draw_right(screen, store, t, o, hits)
 }
 
 // The other two sides, without the corner where the outline began: hits and how many of their pixels are visible.
@@ -145,22 +243,26 @@ fn way_back(screen: &mut [u8], store: &mut [u8], t: Target, o: Outline, hits: us
     ensures { λ r. ⌜ Painted t (listed (o .a + o .b + 1) (o .a + o .b - 1) (outlineDot (t .pen) o))
         (canvas (now (screen .entry)) (now (store .entry)) hits) (canvas (now (screen .exit)) (now (store .exit)) r) ⌝ }
 {
-    let side = bottom_side(o);
-    let seen = spans::draw_alone(screen, store, t, side, hits);
-    dotted(screen, store, t, o, o.a + o.b + 1 + o.a, o.b - 1, seen)
+    let seen = draw_bottom(screen, store, t, o, hits);
+    draw_left(screen, store, t, o, seen)
 }
 
-// The whole outline, its level sides by spans if they are long: how many of its pixels are visible.
+// The whole outline, dot by dot if it is small and else by its sides: how many of its pixels are visible.
 fn draw_outline(screen: &mut [u8], store: &mut [u8], t: Target, o: Outline) -> usize
     requires { ⌜ Ready t (length (now screen)) (length (now store)) × Small o ⌝ }
     ensures { λ r. ⌜ Painted t (listed 0 (outlineLength (o .a) (o .b)) (outlineDot (t .pen) o))
         (canvas (now (screen .entry)) (now (store .entry)) 0) (canvas (now (screen .exit)) (now (store .exit)) r) ⌝ }
 {
     if o.a < SHORTEST_SIDE {
-        let n = outline_length(o.a, o.b);
-        return dotted(screen, store, t, o, 0, n, 0);
+        if o.b < SHORTEST_UPRIGHT {
+            let n = outline_length(o.a, o.b);
+            return dotted(screen, store, t, o, 0, n, 0);
+        }
     }
     let hits = way_out(screen, store, t, o);
+    if o.a == 0 {
+        return hits;
+    }
     if o.b == 0 {
         return hits;
     }

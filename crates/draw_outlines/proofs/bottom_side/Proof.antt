@@ -11,7 +11,7 @@ returns c =
     let s = b .before .before .before .before .before in
     let x = b .before .biased .ensures in
     let y = b .biased2 .ensures in
-    side-bottom (s .args .o) _ (s .pre .0) (x .1) (y .1) (x .0) (y .0) refl refl refl
+    side-bottom (s .args .o) (s .pre .0) _ (x .1) (y .1) (x .0) (y .0) refl refl refl
 
 pub bottom-side-spec : {M : Type 1} → statement M
 bottom-side-spec =

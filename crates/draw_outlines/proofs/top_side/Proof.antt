@@ -11,7 +11,7 @@ returns c =
     let s = b .before .before .before in
     let x = b .before .biased .ensures in
     let y = b .biased2 .ensures in
-    side-top (s .args .o) _ (s .pre) (x .1) (y .1) (x .0) (y .0) refl refl refl
+    side-top (s .args .o) (s .pre) _ (x .1) (y .1) (x .0) (y .0) refl refl refl
 
 pub top-side-spec : {M : Type 1} → statement M
 top-side-spec = tie.close (tie.spec (λ c κs. search needs) (λ c κs. search needs) (λ c. search needs) returns)

@@ -4,7 +4,8 @@ use mathlib.Core.Path.{refl}
 use Prim.Native.Nat.{_-_}
 use native.Mathlib.Omega.{arith}
 use borrow.Author.Needs.{needs}
-use Rattle.draw_lines.proofs.TraceLaws.{rotated-whole, words-small, Outset, Walked, early, locatable, spot-in, walked-first, walked-length}
+use Rattle.stamps.proofs.TrailLaws.{rotated-whole}
+use Rattle.draw_lines.proofs.TraceLaws.{words-small, Outset, Walked, early, locatable, spot-in, walked-first, walked-length}
 use Rattle.draw_lines.proofs.TraceLaws.{walked-treads, walked-in, walked-next, walked-last}
 use Rattle.draw_lines.proofs.walks.walk.Statement.{statement}
 use Rattle.draw_lines.proofs.walks.walk.Tie as tie
