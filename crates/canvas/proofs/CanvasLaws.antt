@@ -37,7 +37,7 @@ paintedAll-next t n f c =
     ∙ ap (λ (m : ℕ). painted t (f m) (paintedAll t (listed 0 n f) c)) (zero-add n)
 
 -- .. and so for lists of dots, one after the other
-joined-last : {A : Type 0} (n i : ℕ) (f : ℕ → List A) → joined i (suc n) f ≡ joined i n f ++ f (i + n)
+pub joined-last : {A : Type 0} (n i : ℕ) (f : ℕ → List A) → joined i (suc n) f ≡ joined i n f ++ f (i + n)
 unfolding joined
 joined-last zero i f = append-nil (f i) ∙ ap f (let e : i ≡ i + 0 = omega arith in e)
 joined-last (suc n) i f =

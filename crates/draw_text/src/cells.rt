@@ -1,4 +1,5 @@
-// The cells of a character as dots: a row, and all rows of a descriptor.
+// The cells of a character: as dots where its rows lie along y, else row by row (rows.rt).
+use crate::rows::glyph_by_rows;
 use canvas::Course;
 use canvas::Heading;
 use canvas::Offset;
@@ -75,9 +76,8 @@ fn glyph_row(
     seen
 }
 
-// The character whose descriptor stands at an address and begins with the word `head`: hits, and one more for
-// each visible cell.
-pub fn glyph(
+// A character, dot by dot.
+fn glyph_by_dots(
     screen: &mut [u8],
     store: &mut [u8],
     t: Target,
@@ -105,4 +105,25 @@ pub fn glyph(
         number += 1;
     }
     seen
+}
+
+// The character whose descriptor stands at an address and begins with the word `head`: hits, and one more for
+// each visible cell.
+pub fn glyph(
+    screen: &mut [u8],
+    store: &mut [u8],
+    t: Target,
+    style: CellStyle,
+    at: usize,
+    head: u16,
+    hits: usize,
+) -> usize
+    requires { ⌜ GlyphReady t (length (now screen)) (now store) at head hits ⌝ }
+    ensures { λ r. ⌜ Painted t (cells (t .pen) style (now (store .entry)) at head)
+        (canvas (now (screen .entry)) (now (store .entry)) hits) (canvas (now (screen .exit)) (now (store .exit)) r) ⌝ }
+{
+    if style.sideways {
+        return glyph_by_dots(screen, store, t, style, at, head, hits);
+    }
+    glyph_by_rows(screen, store, t, style, at, head, hits)
 }

@@ -19,6 +19,8 @@ use Rattle.model.specs.declared.Surface.{Surface}
 use Rattle.model.specs.declared.Pen.{Pen}
 use Rattle.model.proofs.Decisions.{split, both-true, and-false, and-true, cond-true, cond-false}
 use Rattle.model.proofs.DotLaws.{lies-clip}
+use Rattle.model.proofs.PlaceLaws.{depth-bounds}
+use native.Mathlib.Nat.{mul-le-mul-left}
 use Rattle.coordinates.specs.Offsets.{directed, unbiased}
 use Rattle.coordinates.specs.declared.Edges.{Edges}
 use Rattle.coordinates.proofs.EdgeLaws.{within-true, within-early, within-late, unbiased-on, unbiased-back, between-on, between-back, between-holds}
@@ -28,16 +30,21 @@ use Rattle.canvas.specs.Canvas.{Canvas, canvas, painted, paintedAll}
 use Rattle.canvas.proofs.BufferLaws.{buffer-length, screen-painted, store-painted}
 use Rattle.strips.specs.Strokes.{shown, patternOn}
 use Rattle.strips.specs.Stretches.{Stretched}
-use Rattle.strips.specs.Strips.{InRow, Woven}
+use Rattle.strips.specs.Strips.{InRow, Woven, InkOf}
+use Rattle.strips.specs.declared.inks.Ink.{Ink}
+use Rattle.stencils.specs.Stencils.{stencilled, StencilOf}
+use Rattle.stencils.specs.declared.Stencil.{Stencil}
+use Rattle.stencils.proofs.PenLaws.{stencil-dotted, word-pixels}
 use Rattle.strips.specs.Tables.{brushed}
 use Rattle.strips.proofs.FieldBits.{Bytes, changes-bytes}
 use Rattle.strips.proofs.StretchLaws.{true-false, rowByte, stretched-same, stretched-by}
 use Rattle.strips.proofs.RowLaws.{row-is, sized}
-use Rattle.strips.proofs.DottedLaws.{woven-dotted}
+use Rattle.strips.proofs.DottedLaws.{dotted, woven-dotted}
 use Rattle.strips.proofs.DotLaws.{Cut, cut-window, left-lt, left-twice}
 use Rattle.strips.proofs.HitLaws.{shown-cong, shown-from, shown-le}
 use Rattle.strips.proofs.SpanLaws.{right-phase, left-phase, span-stretched, pattern-hits}
 use Rattle.spans.specs.declared.Span.{Span}
+use Rattle.spans.specs.Through.{Short, StencilFor}
 use Rattle.spans.specs.Spans.{spanPlace, spanDot, spanDots, EdgesOf, Met, Strung, Reached, leftmostOf, phaseOf, spanChanged}
 
 -- ## A pattern's 1s
@@ -72,6 +79,48 @@ from-right x i j k h l =
     plain : (m i k r x j : ℕ) → x ≡ m + 65535 + j → j ≡ i + k + 1 + r → x - (i + k) - 65536 ≡ x + 1 - j - 65536 + r
     plain m i k r x j a b = omega arith
 
+-- a column in the clip
+right-by : (clip : Clip) (s : Span) → s .left ≡ false → (i : ℕ) → between (clip .xmin) (clip .xmax) (unbiased (s .x) +ℤ directed (s .left) i) ≡ true
+    → (clip .xmin + 65536 ≤ s .x + i) × (s .x + i ≤ clip .xmax + 65536)
+right-by clip s r i h =
+    let b = both-true (leb (clip .xmin + 65536 - s .x) i) (ltb i (clip .xmax + 65536 + 1 - s .x))
+    (sym (between-on (clip .xmin) (clip .xmax) (s .x) i) ∙ (rw r at h)) in
+    let p = leb-true _ i (b .0) in
+    let q = ltb-true i _ (b .1) in
+    (omega arith, omega arith)
+
+left-by : (clip : Clip) (s : Span) → s .left ≡ true → (i : ℕ) → between (clip .xmin) (clip .xmax) (unbiased (s .x) +ℤ directed (s .left) i) ≡ true
+    → (i + clip .xmin + 65536 ≤ s .x) × (s .x ≤ i + clip .xmax + 65536)
+left-by clip s r i h =
+    let b = both-true (leb (s .x - (clip .xmax + 65536)) i) (ltb i (s .x + 1 - (clip .xmin + 65536)))
+    (sym (between-back (clip .xmin) (clip .xmax) (s .x) i) ∙ (rw r at h)) in
+    let p = leb-true _ i (b .0) in
+    let q = ltb-true i _ (b .1) in
+    (omega arith, omega arith)
+
+-- the columns between the edges lie in the bitmap
+pub record Columns (u : Surface) (s : Span) (e : Edges) : Type 0 where
+  pub columns : leftmostOf s e + (e .second - e .first) ≤ u .width
+  pub reached : Reached s e
+
+pub columns-in : (u : Surface) (clip : Clip) (s : Span) (e : Edges) → clip .xmax < u .width → e .first < e .second
+    → ((i : ℕ) → e .first ≤ i → i < e .second → between (clip .xmin) (clip .xmax) (unbiased (s .x) +ℤ directed (s .left) i) ≡ true) → Columns u s e
+columns-in u clip s e wide some seen = split (s .left)
+    (λ r.
+    let a = left-by clip s r (e .first) (seen (e .first) (omega arith) some) in
+    let b = left-by clip s r (e .second - 1) (seen (e .second - 1) (omega arith) (omega arith)) in
+    record {
+      columns = rw r (omega arith);
+      reached = record { right = λ q. absurd (true-false (sym r ∙ q)); left = λ q. omega arith };
+    })
+    (λ r.
+    let a = right-by clip s r (e .first) (seen (e .first) (omega arith) some) in
+    let b = right-by clip s r (e .second - 1) (seen (e .second - 1) (omega arith) (omega arith)) in
+    record {
+      columns = rw r (omega arith);
+      reached = record { right = λ q. omega arith; left = λ q. absurd (true-false (sym q ∙ r)) };
+    })
+
 module _ (u : Surface) (clip : Clip) (s : Span) (e : Edges) (wide : clip .xmax < u .width) (high : clip .ymax < u .height)
     (edges : EdgesOf u clip s e) where
   inside : (i : ℕ) → e .first ≤ i → i < e .second → lies u clip (spanPlace s i) ≡ true
@@ -90,20 +139,10 @@ module _ (u : Surface) (clip : Clip) (s : Span) (e : Edges) (wide : clip .xmax <
   row-in i h = between-holds (clip .ymin) (clip .ymax) (s .y) (both i h .1)
 
   right-in : s .left ≡ false → (i : ℕ) → lies u clip (spanPlace s i) ≡ true → (clip .xmin + 65536 ≤ s .x + i) × (s .x + i ≤ clip .xmax + 65536)
-  right-in r i h =
-      let b = both-true (leb (clip .xmin + 65536 - s .x) i) (ltb i (clip .xmax + 65536 + 1 - s .x))
-      (sym (between-on (clip .xmin) (clip .xmax) (s .x) i) ∙ (rw r at (both i h .0))) in
-      let p = leb-true _ i (b .0) in
-      let q = ltb-true i _ (b .1) in
-      (omega arith, omega arith)
+  right-in r i h = right-by clip s r i (both i h .0)
 
   left-in : s .left ≡ true → (i : ℕ) → lies u clip (spanPlace s i) ≡ true → (i + clip .xmin + 65536 ≤ s .x) × (s .x ≤ i + clip .xmax + 65536)
-  left-in r i h =
-      let b = both-true (leb (s .x - (clip .xmax + 65536)) i) (ltb i (s .x + 1 - (clip .xmin + 65536)))
-      (sym (between-back (clip .xmin) (clip .xmax) (s .x) i) ∙ (rw r at (both i h .0))) in
-      let p = leb-true _ i (b .0) in
-      let q = ltb-true i _ (b .1) in
-      (omega arith, omega arith)
+  left-in r i h = left-by clip s r i (both i h .0)
 
   module _ (some : e .first < e .second) where
     -- the visible columns lie in the bitmap
@@ -114,28 +153,13 @@ module _ (u : Surface) (clip : Clip) (s : Span) (e : Edges) (wide : clip .xmax <
       pub reached : Reached s e
 
     pub part : Part
-    part = split (s .left)
-        (λ r.
-        let a = left-in r (e .first) (inside (e .first) (omega arith) some) in
-        let b = left-in r (e .second - 1) (inside (e .second - 1) (omega arith) (omega arith)) in
-        record {
-          columns = rw r (omega arith);
-          row = omega (arith, rows);
-          north = omega (arith, rows);
-          reached = record { right = λ q. absurd (true-false (sym r ∙ q)); left = λ q. omega arith };
-        })
-        (λ r.
-        let a = right-in r (e .first) (inside (e .first) (omega arith) some) in
-        let b = right-in r (e .second - 1) (inside (e .second - 1) (omega arith) (omega arith)) in
-        record {
-          columns = rw r (omega arith);
-          row = omega (arith, rows);
-          north = omega (arith, rows);
-          reached = record { right = λ q. omega arith; left = λ q. absurd (true-false (sym q ∙ r)) };
-        })
+    part = record { columns = c .columns; row = omega (arith, rows); north = omega (arith, rows); reached = c .reached }
       where
         rows : (clip .ymin + 65536 ≤ s .y) × (s .y ≤ clip .ymax + 65536)
         rows = row-in (e .first) (inside (e .first) (omega arith) some)
+
+        c : Columns u s e
+        c = columns-in u clip s e wide some (λ i a b. both i (inside i a b) .0)
 
     module _ (pen : Pen) where
       -- a visible pixel is drawn where its pattern has a source
@@ -213,22 +237,42 @@ module _ (u : Surface) (clip : Clip) (s : Span) (e : Edges) (wide : clip .xmax <
             rw z (left-phase (pen .pattern) pattern (u .left + leftmostOf s e) (s .index + e .first) (e .second - e .first) phase q (rw r at met)
             (f ∙ cond-true _ _ r ∙ ap (λ (z : ℕ). (31 - z % 16 - (u .left + leftmostOf s e) % 16) % 16) (sym y)) l)
 
-        pub drawn-changes : {strips old new : List ℕ} → Woven pen pattern (u .bits) strips → Fits u old → Bytes old → Bytes new
-            → (phase : ℕ) → phase ≡ phaseOf s e (u .left + leftmostOf s e)
-            → Stretched (brushed strips phase (rowByte u (s .y - 65536))) (rowByte u (s .y - 65536)) ((u .left + leftmostOf s e) * u .bits)
-            ((u .left + leftmostOf s e) * u .bits + (e .second - e .first) * u .bits) old new
-            → new ≡ changes u (changesOf u clip pen (spanDots pen s)) old
+        -- the pattern over the columns, as the dots draw it
+        dots-dotted : {old : List ℕ} → Fits u old → (phase : ℕ) → phase ≡ phaseOf s e (u .left + leftmostOf s e)
+            → Stretched (dotted pen (λ q. patternOn pattern (phase + q)) (u .bits) (rowByte u (s .y - 65536))) (rowByte u (s .y - 65536))
+            ((u .left + leftmostOf s e) * u .bits) ((u .left + leftmostOf s e) * u .bits + (e .second - e .first) * u .bits) old
+            (changes u (changesOf u clip pen (spanDots pen s)) old)
         unfolding spanDots
-        drawn-changes {old = old} w fits bo bn phase f p = stretched-same
-            (stretched-by (λ m i v. woven-dotted w (fits .depth) phase (rowByte u (s .y - 65536)) m v (i .row)) p)
-            (split (s .left)
+        dots-dotted {old = old} fits phase f = split (s .left)
             (λ r. span-stretched u clip pen (spanDot pen s) (λ k. e .second - e .first - 1 - k) (λ k. s .index + k) (leftmostOf s e) (s .y - 65536)
             (e .first) (e .second - e .first) (s .count) (λ q. patternOn pattern (phase + q)) old (left-cut r) fits (part .columns) (part .row)
             (λ k l. sources k) sights (λ q l. left-laid r phase q f l))
             (λ r. span-stretched u clip pen (spanDot pen s) (λ k. k) (λ k. s .index + k) (leftmostOf s e) (s .y - 65536)
             (e .first) (e .second - e .first) (s .count) (λ q. patternOn pattern (phase + q)) old (right-cut r) fits (part .columns) (part .row)
-            (λ k l. sources k) sights (λ q l. right-laid r phase q f)))
-            bn (changes-bytes u _ old bo)
+            (λ k l. sources k) sights (λ q l. right-laid r phase q f))
+
+        pub drawn-changes : {strips old new : List ℕ} → Woven pen pattern (u .bits) strips → Fits u old → Bytes old → Bytes new
+            → (phase : ℕ) → phase ≡ phaseOf s e (u .left + leftmostOf s e)
+            → Stretched (brushed strips phase (rowByte u (s .y - 65536))) (rowByte u (s .y - 65536)) ((u .left + leftmostOf s e) * u .bits)
+            ((u .left + leftmostOf s e) * u .bits + (e .second - e .first) * u .bits) old new
+            → new ≡ changes u (changesOf u clip pen (spanDots pen s)) old
+        drawn-changes {old = old} w fits bo bn phase f p = stretched-same
+            (stretched-by (λ m i v. woven-dotted w (fits .depth) phase (rowByte u (s .y - 65536)) m v (i .row)) p)
+            (dots-dotted fits phase f) bn (changes-bytes u _ old bo)
+
+        -- .. and what a stencil makes of the row
+        pub through-changes : {old new : List ℕ} {fore back : Ink} {turn : ℕ} {stencil : Stencil}
+            → StencilOf fore back (u .bits) turn ((u .left + leftmostOf s e) * u .bits)
+            ((u .left + leftmostOf s e) * u .bits + (e .second - e .first) * u .bits) stencil
+            → InkOf pen true fore → InkOf pen false back
+            → turn ≡ (phaseOf s e (u .left + leftmostOf s e) + (u .left + leftmostOf s e) * u .bits / 16 * (16 / u .bits)) % 16
+            → Fits u old → Bytes old → Bytes new
+            → Stretched (stencilled stencil pattern (rowByte u (s .y - 65536))) (rowByte u (s .y - 65536))
+            (16 * stencil .word + stencil .lead) (16 * stencil .word + stencil .end) old new
+            → new ≡ changes u (changesOf u clip pen (spanDots pen s)) old
+        through-changes {old = old} so ones zeros f fits bo bn p = stretched-same
+            (stretched-by (λ m i v. stencil-dotted so ones zeros (fits .depth) pattern _ (rowByte u (s .y - 65536)) m v f i) (rw (so .from, so .to) at p))
+            (dots-dotted fits _ refl) bn (changes-bytes u _ old bo)
 
 -- ## On both buffers
 
@@ -315,6 +359,26 @@ module _ (t : Target) (s : Span) (e : Edges) (screen store : List ℕ) (r : Read
       drawn-changes (t .area .surface) (t .clip) s e (r .east) (r .south) edges some (t .pen) (w .pattern) (w .met) (w .woven) fits bo bn phase (rw q at f)
       (rw (row-is (t .area .surface) (bufferOf t screen store) (leftmostOf s e) (s .y - 65536) (e .second - e .first) in-row) at (rw q at p))
 
+  -- .. through a stencil
+  pub part-through : {old new : List ℕ} {r′ : Stencil} (met : ℕ) → StencilFor t s e r′ → Met (s .left) (t .pen .pattern) met
+      → Fits (t .area .surface) old → Bytes old → Bytes new
+      → Stretched (stencilled r′ met (t .area .surface .base + 2 * (t .area .surface .words * (t .area .surface .top + (s .y - 65536)))))
+      (t .area .surface .base + 2 * (t .area .surface .words * (t .area .surface .top + (s .y - 65536))))
+      (16 * r′ .word + r′ .lead) (16 * r′ .word + r′ .end) old new
+      → new ≡ spanChanged t s old
+  unfolding spanChanged
+  part-through met f m fits bo bn p =
+      through-changes (t .area .surface) (t .clip) s e (r .east) (r .south) edges some (t .pen) met m (f .stencil) (f .ones) (f .zeros) (f .index) fits bo bn
+      (rw (row-is (t .area .surface) (bufferOf t screen store) (leftmostOf s e) (s .y - 65536) (e .second - e .first) in-row) at p)
+
+  -- its words lie in the buffer
+  pub part-room : {r′ : Stencil} → StencilFor t s e r′
+      → t .area .surface .base + 2 * (t .area .surface .words * (t .area .surface .top + (s .y - 65536))) + 2 * (r′ .word + (r′ .end + 15) / 16)
+      ≤ cond (t .area .onscreen) (length screen) (length store)
+  part-room {r′} f =
+      let z = part-sized (leftmostOf s e) refl in
+      omega (arith, z .room, f .stencil .to)
+
 pub screen-fits : {t : Target} (screen store : List ℕ) → Ready t (length screen) (length store) → t .area .onscreen ≡ true → Fits (t .area .surface) screen
 screen-fits {t} screen store r o = subst (λ (l : List ℕ). Fits (t .area .surface) l) (cond-true screen store o) (ready-fits screen store r)
 
@@ -345,3 +409,33 @@ part-painted t s screen store before count h p a b = dots-painted t (spanDots (t
 pub seen-most : (t : Bool) (on : ℕ → Bool) (i n : ℕ) → cond t (shown on i n) n ≤ n
 seen-most true on i n = shown-le on n i
 seen-most false on i n = omega arith
+
+-- ## A short span's stencil
+
+-- the numbers of a stencil fit, the visible part being from column x on
+pub record ShortSized (t : Target) (e : Edges) (x : ℕ) : Type 0 where
+  pub west : t .area .surface .left + x ≤ 65536
+  pub lo : (t .area .surface .left + x) * t .area .surface .bits ≤ 524288
+  pub most : (e .second - e .first) * t .area .surface .bits ≤ 128
+  pub some : 0 < (e .second - e .first) * t .area .surface .bits
+  pub pixels : (t .area .surface .left + x) * t .area .surface .bits / 16 * (16 / t .area .surface .bits) ≤ 524288
+
+pub short-columns : {t : Target} {s : Span} {e : Edges} → Short t s e → Columns (t .area .surface) s e
+short-columns {t} {s} {e} h = columns-in (t .area .surface) (t .clip) s e (h .east) (h .some)
+    (λ i a b. h .columns .exactly i (omega (arith, h .columns .last)) ∙ within-true (e .first) i (e .second) a b)
+
+pub short-sized : {t : Target} {s : Span} {e : Edges} → Short t s e → (x : ℕ) → x ≡ leftmostOf s e → ShortSized t e x
+short-sized {t} {s} {e} h x q =
+    let u = t .area .surface in
+    let p = short-columns h in
+    let d = depth-bounds (h .depth) in
+    let a : (t .area .surface .left + x) * t .area .surface .bits ≤ (t .area .surface .left + x) * 8 = mul-le-mul-left (t .area .surface .left + x) (d .1) in
+    let w : t .area .surface .left + x ≤ 65536 = omega (arith, p .columns, h .small, q) in
+    let v : 16 / t .area .surface .bits ≤ 16 = omega (arith, word-pixels (h .depth), mul-le-mul-left (16 / t .area .surface .bits) (d .0)) in
+    record {
+      west = w;
+      lo = omega arith;
+      most = omega (arith, h .few, mul-le-mul-left (e .second - e .first) (d .1));
+      some = omega (arith, h .some, mul-le-mul-left (e .second - e .first) (d .0));
+      pixels = omega (arith, mul-le-mul-left ((t .area .surface .left + x) * t .area .surface .bits / 16) v);
+    }

@@ -1,3 +1,4 @@
 -- What the contracts of `spans` cite beside model's definitions.
 pub mod Spans
 pub mod Examples
+pub mod Through

@@ -12,9 +12,14 @@ ghost use Rattle.strips.specs.Strokes.{shown, patternOn};
 ghost use Rattle.spans.specs.Spans.{Bounded, EdgesOf, Strung, indexEnd, longestSpan, spanDots};
 ghost use Rattle.spans.specs.Spans.{Reached, leftmostOf, phaseOf, spanChanged};
 ghost use Rattle.spans.specs.Examples.{Worked};
+ghost use Rattle.spans.specs.Through.{Short, StencilFor};
 use canvas::Target;
 use coordinates::Edges;
 use model::Pen;
+use stencils::Stencil;
+use stencils::stencil_of;
+use strips::inks::back_of;
+use strips::inks::fore_of;
 
 // A span: its first pixel at (x,y), whether it goes to the left, how many pixels it has, and the pattern index
 // of the first. x and y are 65,536 more than the coordinates, so that none is negative.
@@ -166,4 +171,26 @@ pub fn draw_alone(screen: &mut [u8], store: &mut [u8], t: Target, s: Span, hits:
     let strips = strips_of(t, s.left);
     draw_part(screen, store, &strips, t, s, e);
     seen
+}
+
+// The stencil of a short span's visible part: worked out once for spans that lie below one another.
+pub fn stencil_for(t: Target, s: Span, e: Edges) -> Stencil
+    requires { ⌜ Short t s e ⌝ }
+    ensures { λ r. ⌜ StencilFor t s e r ⌝ }
+{
+    let area = t.area;
+    let u = area.surface;
+    let bits = u.bits;
+    let c = u.left + leftmost(s, e);
+    let lo = c * bits;
+    let hi = lo + (e.second - e.first) * bits;
+    let turn = (phase_of(s, e, c) + lo / 16 * (16 / bits)) % 16;
+    stencil_of(
+        fore_of(t.pen, t.truth),
+        back_of(t.pen, t.truth),
+        bits,
+        turn,
+        lo,
+        hi,
+    )
 }

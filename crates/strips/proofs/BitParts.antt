@@ -62,12 +62,16 @@ either : (m : Bool) (f b i : ℕ) → cond m (bit f i) (bit b i) ≡ bit (cond m
 either true f b i = refl
 either false f b i = refl
 
+pub choice-bit : (x y m i : ℕ) → bit (bitXor x (bitAnd (bitXor x y) m)) i ≡ bit (cond (bit m i) y x) i
+choice-bit x y m i =
+    bit-xor i x (bitAnd (bitXor x y) m)
+    ∙ ap (differs (bit x i)) (bit-and i (bitXor x y) m ∙ ap (λ (z : Bool). z && bit m i) (bit-xor i x y))
+    ∙ mux-bit (bit m i) (bit x i) (bit y i) ∙ either (bit m i) y x i
+
 -- between two words, each four times
 pub under-is : (m f b x y : ℕ) → Fourfold b x → Fourfold f y → Under m f b (bitXor x (bitAnd (bitXor x y) m))
 under-is m f b x y p q i h =
-    bit-xor i x (bitAnd (bitXor x y) m)
-    ∙ ap (differs (bit x i)) (bit-and i (bitXor x y) m ∙ ap (λ (z : Bool). z && bit m i) (bit-xor i x y))
-    ∙ mux-bit (bit m i) (bit x i) (bit y i) ∙ ap₂ (cond (bit m i)) (q i h) (p i h) ∙ either (bit m i) f b (i % 16)
+    choice-bit x y m i ∙ sym (either (bit m i) y x i) ∙ ap₂ (cond (bit m i)) (q i h) (p i h) ∙ either (bit m i) f b (i % 16)
 
 -- ## x | y
 

@@ -39,7 +39,7 @@ source-inked pen false shift j v = split (pen .transparent) (λ e. rw e refl) (�
 -- ## By a table
 
 -- columns in whole words, and those that are left
-word-columns : (per bits w r : ℕ) → per * bits ≡ 16 → 0 < bits → (16 * w + r) / bits ≡ w * per + r / bits
+pub word-columns : (per bits w r : ℕ) → per * bits ≡ 16 → 0 < bits → (16 * w + r) / bits ≡ w * per + r / bits
 word-columns per bits w r e h =
     ap (λ (x : ℕ). x / bits) (ap (λ (x : ℕ). x + r) (mul-comm 16 w ∙ ap (λ (x : ℕ). w * x) (sym e) ∙ sym (mul-assoc w per bits)) ∙ add-comm (w * per * bits) r)
     ∙ add-mul-div-right r (w * per) h ∙ add-comm (r / bits) (w * per)

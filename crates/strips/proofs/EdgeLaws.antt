@@ -106,7 +106,7 @@ pub mixed-bit : (old keep flip j : ℕ) → bit (mixed old keep flip) j ≡ mixe
 mixed-bit old keep flip j = bit-xor j (bitAnd old keep) flip ∙ ap (λ (v : Bool). differs v (bit flip j)) (bit-and j old keep)
 
 -- bit i of old ^ ((old ^ new) & cover), where new is old mixed
-over-bit : (old keep flip cover i : ℕ) → bit (bitXor old (bitAnd (bitXor old (mixed old keep flip)) cover)) i
+pub over-bit : (old keep flip cover i : ℕ) → bit (bitXor old (bitAnd (bitXor old (mixed old keep flip)) cover)) i
     ≡ cond (bit cover i) (mixedBit keep flip i (bit old i)) (bit old i)
 over-bit old keep flip cover i =
     bit-xor i old (bitAnd (bitXor old (mixed old keep flip)) cover)

@@ -27,7 +27,7 @@ spread-is bits code e x h =
 -- ## Its sixteen bits
 
 -- n words on
-across-on : (n k : ℕ) → across 0 (16 * n + k) ≡ 16 * n + across 0 k
+pub across-on : (n k : ℕ) → across 0 (16 * n + k) ≡ 16 * n + across 0 k
 across-on n k = omega arith
 
 across-from : (n i : ℕ) → 16 * n ≤ i → across 0 i ≡ 16 * n + across 0 (i - 16 * n)

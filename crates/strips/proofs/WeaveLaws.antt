@@ -161,7 +161,7 @@ unfolding wovenByte
 woven-bit pattern bits t fore back k j h =
     bit-num 8 (λ j. bit (cond (bit pattern (15 - (t + columnOf bits k j) % 16)) fore back) (8 * (k % 2) + j)) j h
 
-inked : (pen : Pen) (fore back : Ink) → InkOf pen true fore → InkOf pen false back → (on : Bool) (i : ℕ) → i < 16 → (d : Bool)
+pub inked : (pen : Pen) (fore back : Ink) → InkOf pen true fore → InkOf pen false back → (on : Bool) (i : ℕ) → i < 16 → (d : Bool)
     → mixedBit (cond on (fore .keep) (back .keep)) (cond on (fore .flip) (back .flip)) i d ≡ penBit pen on i d
 inked pen fore back f b true i h d = f .bits i h d
 inked pen fore back f b false i h d = b .bits i h d

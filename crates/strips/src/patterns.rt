@@ -48,7 +48,11 @@ pub fn counted(pattern: u16, index: usize, n: usize) -> usize
     ensures { λ r. ⌜ r ≡ shown (patternOn pattern) index n ⌝ }
 {
     let rest = (rotate_left(pattern, index) as u32) >> (16 - n % 16);
-    n / 16 * ones(pattern) + ones(rest as u16)
+    let few = ones(rest as u16);
+    if n < 16 {
+        return few;
+    }
+    n / 16 * ones(pattern) + few
 }
 
 // Eight bits of a pattern over pixels of 2 bits: a word.

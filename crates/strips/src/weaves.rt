@@ -15,7 +15,7 @@ use model::Pen;
 use raster::Truth;
 
 // A word four times.
-fn four(w: u16) -> u64
+pub fn four(w: u16) -> u64
     ensures { λ r. ⌜ Fourfold w r ⌝ }
 {
     (w as u64) * 0x0001000100010001

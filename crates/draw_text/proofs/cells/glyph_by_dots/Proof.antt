@@ -1,4 +1,4 @@
--- `draw_text::cells::glyph` meets its contract. The loop's invariant: the first rows are painted. A row's word is read while the character is
+-- `draw_text::cells::glyph_by_dots` meets its contract. The loop's invariant: the first rows are painted. A row's word is read while the character is
 -- drawn, and is what it was at entry, since the descriptor lies beside the bitmap.
 use mathlib.Core.Path.{_≡_, refl, ap, _∙_}
 use Prim.Native.Nat.{_+_, _-_, _*_, _<_}
@@ -13,8 +13,8 @@ use Rattle.canvas.proofs.LoopLaws.{Painting, painting-lengths, painting-ready, 
 use Rattle.draw_text.specs.declared.cells.CellRow.{CellRow}
 use Rattle.draw_text.specs.Cells.{rowDots, cellRow, firstRows}
 use Rattle.draw_text.proofs.CellLaws.{firstRows-length}
-use Rattle.draw_text.proofs.cells.glyph.Statement.{statement}
-use Rattle.draw_text.proofs.cells.glyph.Tie as tie
+use Rattle.draw_text.proofs.cells.glyph_by_dots.Statement.{statement}
+use Rattle.draw_text.proofs.cells.glyph_by_dots.Tie as tie
 
 abbrev Inv-loop : tie.InvT-loop
 Inv-loop screen₀ store₀ t style at head hits width height seen₀ number₀ screen store seen number =
@@ -92,8 +92,8 @@ returns c =
     let l = c .before in
     painting-done _ (l .loop .inv) (omega (arith, l .loop .inv .turn, c .loop-test .left, l .before .height-of .ensures .0))
 
-pub glyph-spec : {M : Type 1} → statement M
-glyph-spec =
+pub glyph-by-dots-spec : {M : Type 1} → statement M
+glyph-by-dots-spec =
     tie.close
     (tie.spec
     Inv-loop

@@ -1,0 +1,3 @@
+-- Laws of stencils.
+pub mod StencilLaws
+pub mod PenLaws

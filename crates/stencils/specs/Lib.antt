@@ -1,0 +1,2 @@
+-- What the contracts of `stencils` cite beside model's and strips' definitions.
+pub mod Stencils
