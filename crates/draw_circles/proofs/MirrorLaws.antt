@@ -23,7 +23,7 @@ use Rattle.canvas.specs.Canvas.{Canvas, hit, painted, paintedAll}
 use Rattle.draw_circles.specs.declared.sheets.Sheet.{Sheet}
 use Rattle.draw_circles.specs.declared.sides.Side.{Side}
 use Rattle.draw_circles.specs.declared.sides.Sides.{Sides}
-use Rattle.draw_circles.specs.Sides.{sideIn, SideOf, SidesOf}
+use Rattle.draw_circles.specs.Sides.{sideIn, SideAt, SidesOf}
 use Rattle.draw_circles.specs.Sheets.{SheetReady, InLimits, Room, SheetOf, onSheet, Dabbed, dotsAt, dotsOn, dotIf}
 use Rattle.draw_circles.proofs.SheetLaws.{dabbed-none, dabbed-same, dabbed-more, places-then, dot-visible}
 
@@ -44,8 +44,8 @@ and-pairs false b c d = refl
 
 -- in the column and the row of an offset, each of which may not be there
 module _ (s : Sheet) (x y : ℕ) (left up across down : Bool) {column row : Side}
-    (h : SideOf (s .clip .xmin) (s .clip .xmax) (coord (s .centre .x) +ℤ directed left x) across column)
-    (v : SideOf (s .clip .ymin) (s .clip .ymax) (coord (s .centre .y) +ℤ directed up y) down row) where
+    (h : SideAt (s .clip .xmin) (s .clip .xmax) (coord (s .centre .x) +ℤ directed left x) across column)
+    (v : SideAt (s .clip .ymin) (s .clip .ymax) (coord (s .centre .y) +ℤ directed up y) down row) where
   -- both lie in the limits
   abbrev inside : Bool
   inside = sideIn (s .clip .xmin) (s .clip .xmax) (s .centre .x) left x && sideIn (s .clip .ymin) (s .clip .ymax) (s .centre .y) up y

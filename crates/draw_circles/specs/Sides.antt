@@ -19,14 +19,14 @@ pub record SidesIn (lo hi at k : ℕ) : Type 0 where
   pub each : (back : Bool) → sideIn lo hi at back k ≡ true
 
 -- the coordinate z, kept 65,536 larger, and whether it is to be drawn: it is there, and lies in the limits
-pub record SideOf (lo hi : ℕ) (z : ℤ) (there : Bool) (s : Side) : Type 0 where
+pub record SideAt (lo hi : ℕ) (z : ℤ) (there : Bool) (s : Side) : Type 0 where
   pub at : unbiased (s .at) ≡ z
   pub on : s .on ≡ (there && between lo hi z)
 
 -- the coordinates k after and k before another: at distance 0 they are one, and the second is not there
 pub record SidesOf (lo hi at k : ℕ) (s : Sides) : Type 0 where
-  pub after : SideOf lo hi (coord at +ℤ directed false k) true (s .after)
-  pub before : SideOf lo hi (coord at +ℤ directed true k) (ltb 0 k) (s .before)
+  pub after : SideAt lo hi (coord at +ℤ directed false k) true (s .after)
+  pub before : SideAt lo hi (coord at +ℤ directed true k) (ltb 0 k) (s .before)
 
 -- none of the coordinates up to r from another lies in the limits, or all of them do
 pub record OverlapOf (lo hi at r : ℕ) (o : Overlap) : Type 0 where

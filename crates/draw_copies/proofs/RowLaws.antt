@@ -31,7 +31,7 @@ use Rattle.row_copies.proofs.PixelLinks.{copied-pixel, rows-fit}
 use Rattle.draw_copies.specs.declared.Patch.{Patch}
 use Rattle.draw_copies.specs.declared.Transfer.{Transfer}
 use Rattle.draw_copies.specs.Rows.{rowOf, Starts, RowStarts, BitsFit, BitsCopied}
-use Rattle.draw_copies.specs.Transfers.{patchDot, rowDots, movedRow, Movable}
+use Rattle.draw_copies.specs.Transfers.{patchDot, movedDots, movedRow, Movable}
 
 cond-bytes : (here : Bool) (screen store : List ℕ) → Bytes screen → Bytes store → Bytes (cond here screen store)
 cond-bytes true screen store a b = a
@@ -133,17 +133,17 @@ module _ (t : Target) (m : Transfer) (j : ℕ) (screen store : List ℕ) (h : Mo
       none k b (inl a) = omega arith
       none k b (inr a) = omega arith
 
-  row-hits : hits u (t .clip) (rowDots m j src) ≡ p .wide
+  row-hits : hits u (t .clip) (movedDots m j src) ≡ p .wide
   unfolding row-dot
   row-hits = hits-shown u (t .clip) row-dot (p .wide) 0 ∙ shown-all (λ k. visible u (t .clip) (row-dot k)) (p .wide) 0 (λ k a b. row-seen k (omega arith))
 
   -- what its dots change is the stretch that is copied
   row-stretched : Stretched (copied (m .operator) (rowOf u m j) src) (rowOf u m j .row) (rowOf u m j .to) (rowOf u m j .to + rowOf u m j .count) old
-      (changes u (changesOf u (t .clip) (t .pen) (rowDots m j src)) old)
+      (changes u (changesOf u (t .clip) (t .pen) (movedDots m j src)) old)
   unfolding row-dot
   row-stretched =
       subst (λ (o : ℕ). Stretched (copied (m .operator) (rowOf u m j) src) o (rowOf u m j .to) (rowOf u m j .to + rowOf u m j .count) old
-      (changes u (changesOf u (t .clip) (t .pen) (rowDots m j src)) old))
+      (changes u (changesOf u (t .clip) (t .pen) (movedDots m j src)) old))
       (sym (row-is u old (p .x) (p .y + j) (p .wide) target-row))
       (dots-stretched u (t .clip) (t .pen) row-dot (λ k. k) (p .x) (p .y + j) 0 (p .wide) (p .wide) old (copied (m .operator) (rowOf u m j) src)
       row-cut (target-row .fits) (target-row .columns) (target-row .row)
@@ -153,7 +153,7 @@ module _ (t : Target) (m : Transfer) (j : ℕ) (screen store : List ℕ) (h : Mo
 
   module _ {screen′ store′ : List ℕ} (c : BitsCopied (t .area .onscreen) (m .source .onscreen) (rowOf u m j) (m .operator) screen store screen′ store′)
       (a : Bytes screen) (b : Bytes store) (a′ : Bytes screen′) (b′ : Bytes store′) where
-    row-changed : cond (t .area .onscreen) screen′ store′ ≡ changes u (changesOf u (t .clip) (t .pen) (rowDots m j src)) old
+    row-changed : cond (t .area .onscreen) screen′ store′ ≡ changes u (changesOf u (t .clip) (t .pen) (movedDots m j src)) old
     row-changed = stretched-same (c .target) row-stretched (cond-bytes (t .area .onscreen) screen′ store′ a′ b′)
         (changes-bytes u _ old (cond-bytes (t .area .onscreen) screen store a b))
 
@@ -162,13 +162,13 @@ module _ (t : Target) (m : Transfer) (j : ℕ) (screen store : List ℕ) (h : Mo
     unfolding movedRow
     row-moved before q = split (t .area .onscreen)
         (λ o. ap (λ (s : List ℕ). canvas screen′ s (before + p .wide)) (sym (cond-true _ _ o) ∙ c .other ∙ cond-true _ _ o)
-        ∙ screen-painted t (rowDots m j src) screen store before (p .wide) row-hits q o
-        (sym (cond-true _ _ o) ∙ row-changed ∙ ap (changes u (changesOf u (t .clip) (t .pen) (rowDots m j src))) (cond-true _ _ o)))
+        ∙ screen-painted t (movedDots m j src) screen store before (p .wide) row-hits q o
+        (sym (cond-true _ _ o) ∙ row-changed ∙ ap (changes u (changesOf u (t .clip) (t .pen) (movedDots m j src))) (cond-true _ _ o)))
         (λ o. ap (λ (s : List ℕ). canvas s store′ (before + p .wide)) (sym (cond-false _ _ o) ∙ c .other ∙ cond-false _ _ o)
-        ∙ store-painted t (rowDots m j src) screen store before (p .wide) row-hits q o
-        (sym (cond-false _ _ o) ∙ row-changed ∙ ap (changes u (changesOf u (t .clip) (t .pen) (rowDots m j src))) (cond-false _ _ o)))
+        ∙ store-painted t (movedDots m j src) screen store before (p .wide) row-hits q o
+        (sym (cond-false _ _ o) ∙ row-changed ∙ ap (changes u (changesOf u (t .clip) (t .pen) (movedDots m j src))) (cond-false _ _ o)))
 
   -- in pick mode
   pub row-picked : (before : ℕ) → t .picking ≡ true → canvas screen store (before + p .wide) ≡ movedRow t m j (canvas screen store before)
   unfolding movedRow
-  row-picked before q = picked-painted t (rowDots m j src) screen store before (p .wide) row-hits q
+  row-picked before q = picked-painted t (movedDots m j src) screen store before (p .wide) row-hits q

@@ -43,15 +43,16 @@ pub record RowStarts (u : Surface) (m : Transfer) (j : ℕ) : Type 0 where
 
 -- ## In both buffers
 
--- the bits lie in the buffers that they come from and go to, within one buffer in one row or apart; and where the operator
--- is called plain, it is
+-- the bits lie in the buffers that they come from and go to, within one buffer in one row or apart; and where the
+-- operator is called plain, it is
 pub record BitsFit (onto from : Bool) (c : RowCopy) (x : Operator) (screen store : List ℕ) : Type 0 where
   pub room : RowsFit c (cond onto screen store) (cond from screen store)
   pub clear : onto ≡ from → Slidable c
   pub sound : SoundOperator x
 
 -- the bits are copied into one buffer, and the other is kept
-pub record BitsCopied (onto from : Bool) (c : RowCopy) (x : Operator) (screen store screen′ store′ : List ℕ) : Type 0 where
+pub record BitsCopied (onto from : Bool) (c : RowCopy) (x : Operator) (screen store screen′ store′ : List ℕ)
+    : Type 0 where
   pub target : Stretched (copied x c (cond from screen store)) (c .row) (c .to) (c .to + c .count)
       (cond onto screen store) (cond onto screen′ store′)
   pub other : cond onto store′ screen′ ≡ cond onto store screen

@@ -69,11 +69,11 @@ abbrev pub patchDot : (ℕ → ℕ → ℕ) → Patch → ℕ → ℕ → Dot
 patchDot see p j i = dot (at (pos (p .x + i)) (pos (p .y + j))) (Copied (see (p .sx + i) (p .sy + j)))
 
 -- row j of a transfer, all its values read from the source as it is before the row is drawn
-abbrev pub rowDots : Transfer → ℕ → List ℕ → List Dot
-rowDots m j buffer = listed 0 (m .patch .wide) (patchDot (pixels (m .source .surface) buffer) (m .patch) j)
+abbrev pub movedDots : Transfer → ℕ → List ℕ → List Dot
+movedDots m j buffer = listed 0 (m .patch .wide) (patchDot (pixels (m .source .surface) buffer) (m .patch) j)
 
 unfoldable pub movedRow : Target → Transfer → ℕ → Canvas → Canvas
-movedRow t m j c = paintedAll t (rowDots m j (bufferOf (m .source) c)) c
+movedRow t m j c = paintedAll t (movedDots m j (bufferOf (m .source) c)) c
 
 -- all rows, from the top or from the bottom
 unfoldable pub movedAll : Target → Transfer → Canvas → Canvas
@@ -87,8 +87,8 @@ SlidableRows t m =
     t .area .onscreen ≡ m .source .onscreen → 0 < m .patch .wide → (j : ℕ) → j < m .patch .high
     → Slidable (rowOf (t .area .surface) m j)
 
--- a transfer whose source lies in its area and has the target's depth, whose target lies in the clip, and whose operator is
--- the pen's, for buffers of these lengths
+-- a transfer whose source lies in its area and has the target's depth, whose target lies in the clip, and whose
+-- operator is the pen's, for buffers of these lengths
 pub record Movable (t : Target) (m : Transfer) (screen store : ℕ) : Type 0 where
   pub ready : Ready t screen store
   pub readable : Readable (m .source .surface) (cond (m .source .onscreen) screen store)

@@ -41,12 +41,12 @@ use Rattle.stamps.proofs.StampLaws.{stamped-change, stamp-in}
 use Rattle.stamps.proofs.TrailLaws.{rotated-on, first-digit}
 use Rattle.draw_lines.specs.declared.segments.Segment.{Segment}
 use Rattle.draw_lines.specs.declared.slopes.Axes.{Axes}
-use Rattle.draw_lines.specs.declared.walks.Gait.{Gait}
+use Rattle.draw_lines.specs.declared.walks.LineSteps.{LineSteps}
 use Rattle.draw_lines.specs.declared.walks.Spot.{Spot}
 use Rattle.draw_lines.specs.Edges.{LineEdges}
 use Rattle.draw_lines.specs.Segments.{traceAt, traceDot}
-use Rattle.draw_lines.specs.Walks.{columnOn, rowOn, Located, Locatable, SpotAt, gaitOf, Treads, nextSpot, Walkable, traced}
-use Rattle.draw_lines.proofs.WalkLaws.{walk-treads, walk-spot}
+use Rattle.draw_lines.specs.Walks.{columnOn, rowOn, Located, Locatable, SpotAt, lineStepsOf, NextFits, nextSpot, Walkable, traced}
+use Rattle.draw_lines.proofs.WalkLaws.{walk-fits, walk-spot}
 
 -- ## Where a visible pixel lies
 
@@ -118,7 +118,7 @@ words-small {t} w h =
 -- ## The walk
 
 -- all that a walk has at its start
-pub record Outset (stamps : List ℕ) (e : Edges) (gait : Gait) : Type 0 where
+pub record Outset (stamps : List ℕ) (e : Edges) (steps : LineSteps) : Type 0 where
   pub t : Target
   pub course : Course
   pub axes : Axes
@@ -129,9 +129,9 @@ pub record Outset (stamps : List ℕ) (e : Edges) (gait : Gait) : Type 0 where
   pub small : Bytes stamps
   pub bytes : Bytes old
   pub short : length old < 2 ^ 64
-  pub steps : gait ≡ gaitOf (t .area .surface) (course .heading) axes
+  pub stepsAre : steps ≡ lineStepsOf (t .area .surface) (course .heading) axes
 
-module _ {stamps : List ℕ} {e : Edges} {gait : Gait} (c : Outset stamps e gait) where
+module _ {stamps : List ℕ} {e : Edges} {steps : LineSteps} (c : Outset stamps e steps) where
   abbrev u : Surface
   u = c .t .area .surface
 
@@ -252,16 +252,16 @@ module _ {stamps : List ℕ} {e : Edges} {gait : Gait} (c : Outset stamps e gait
     walked-length = ap length (w .drawn) ∙ changes-length u _ (c .old)
 
     module _ (more : i + 1 < e .second) where
-      pub walked-treads : Treads spot gait
-      walked-treads = rw (c .steps) (walk-treads u (c .old) (c .course) (c .axes) (c .walkable .sloped) i (c .short)
+      pub walked-fits : NextFits spot steps
+      walked-fits = rw (c .stepsAre) (walk-fits u (c .old) (c .course) (c .axes) (c .walkable .sloped) i (c .short)
           (located i (w .low) (w .high)) (located (i + 1) (omega (arith, w .low)) more) (w .at))
 
-      walked-spot : {spot′ : Spot} → spot′ ≡ nextSpot spot gait → SpotAt u (c .course) (c .axes) (i + 1) spot′
-      walked-spot q = subst (λ (z : Spot). SpotAt (c .t .area .surface) (c .course) (c .axes) (i + 1) z) (sym (q ∙ ap (nextSpot spot) (c .steps)))
+      walked-spot : {spot′ : Spot} → spot′ ≡ nextSpot spot steps → SpotAt u (c .course) (c .axes) (i + 1) spot′
+      walked-spot q = subst (λ (z : Spot). SpotAt (c .t .area .surface) (c .course) (c .axes) (i + 1) z) (sym (q ∙ ap (nextSpot spot) (c .stepsAre)))
           (walk-spot u (c .old) (c .course) (c .axes) (c .walkable .sloped) i (c .short)
           (located i (w .low) (w .high)) (located (i + 1) (omega (arith, w .low)) more) (w .at))
 
-      pub walked-in : {spot′ : Spot} → spot′ ≡ nextSpot spot gait → stampByte (spot′ .row) (spot′ .bit) < length buffer
+      pub walked-in : {spot′ : Spot} → spot′ ≡ nextSpot spot steps → stampByte (spot′ .row) (spot′ .bit) < length buffer
       walked-in q = rw walked-length (spot-in (i + 1) (omega (arith, w .low)) more (walked-spot q))
 
       walked-pattern : (pattern′ : ℕ) → RotatedLeft pattern 1 pattern′ → RotatedLeft (c .t .pen .pattern) (i + 1 - c .s .first + c .s .index) pattern′
@@ -270,7 +270,7 @@ module _ {stamps : List ℕ} {e : Edges} {gait : Gait} (c : Outset stamps e gait
           rw z at (rotated-on (c .t .pen .pattern) (i - c .s .first + c .s .index) pattern pattern′ (w .turned) r)
 
       -- the next pixel
-      pub walked-next : {spot′ : Spot} {pattern′ on : ℕ} {buffer′ : List ℕ} → spot′ ≡ nextSpot spot gait → pattern′ < 65536 → RotatedLeft pattern 1 pattern′
+      pub walked-next : {spot′ : Spot} {pattern′ on : ℕ} {buffer′ : List ℕ} → spot′ ≡ nextSpot spot steps → pattern′ < 65536 → RotatedLeft pattern 1 pattern′
           → on ≡ pattern′ / 32768 → buffer′ ≡ stamped stamps (spot′ .row) (spot′ .bit) on buffer → Walked buffer′ spot′ pattern′ (i + 1)
       walked-next {spot′} {pattern′} {on} q l r o b = record {
         drawn =

@@ -22,7 +22,7 @@ use Rattle.draw_lines.specs.declared.slopes.Axes.{Axes}
 use Rattle.draw_lines.specs.declared.slopes.Slope.{Slope}
 use Rattle.draw_lines.specs.declared.walks.Spot.{Spot}
 use Rattle.draw_lines.specs.Segments.{Sloped, minorOf, restOf, SlopeAt, traceAt}
-use Rattle.draw_lines.specs.Walks.{columnOn, rowOn, Located, Locatable, SpotAt, moveOf, gaitOf, Steps, Treads, spotAfter, nextSpot}
+use Rattle.draw_lines.specs.Walks.{columnOn, rowOn, Located, Locatable, SpotAt, moveOf, lineStepsOf, MoveFits, NextFits, spotAfter, nextSpot}
 use Rattle.draw_lines.proofs.SlopeLaws.{minor-most, rest-below, straight-at, straight-rest, diagonal-at, diagonal-rest}
 use Rattle.draw_lines.proofs.SegmentLaws.{directed-on}
 
@@ -138,7 +138,7 @@ module _ (u : Surface) (buffer : List ℕ) (course : Course) (a : Axes) (sl : Sl
   -- by a move along x or not, along y or not, as the two pixels lie
   module _ (x y : Bool) (bx : Beyond (h .left) x (columnOn course a i) (columnOn course a (i + 1)))
       (by : Beyond (h .up) y (rowOn course a i) (rowOn course a (i + 1))) where
-    move-steps : Steps s (moveOf u h x y)
+    move-steps : MoveFits s (moveOf u h x y)
     move-steps =
         let z = sized u buffer (columnOn course a i) (rowOn course a i) 1 (here .inside) (omega arith) in
         let p = bit-step (h .left) x (u .left) (columnOn course a i) (columnOn course a (i + 1)) (u .bits) bx in
@@ -181,7 +181,7 @@ module _ (u : Surface) (buffer : List ℕ) (course : Course) (a : Axes) (sl : Sl
     straight-y : Beyond (h .up) (not (a .level)) (rowOn course a i) (rowOn course a (i + 1))
     straight-y = along-y (not (a .level)) (split (a .level) (λ e. rw e same) (λ e. rw e refl))
 
-    straight-steps : Steps s (moveOf u h (a .level) (not (a .level)))
+    straight-steps : MoveFits s (moveOf u h (a .level) (not (a .level)))
     straight-steps = move-steps (a .level) (not (a .level)) straight-x straight-y
 
     straight-spot : SpotAt u course a (i + 1) (spotAfter s (moveOf u h (a .level) (not (a .level))) (s .rest + 2 * a .smaller))
@@ -199,21 +199,21 @@ module _ (u : Surface) (buffer : List ℕ) (course : Course) (a : Axes) (sl : Sl
     diagonal-y : Beyond (h .up) true (rowOn course a i) (rowOn course a (i + 1))
     diagonal-y = along-y true (split (a .level) (λ e. rw e more) (λ e. rw e refl))
 
-    diagonal-steps : Steps s (moveOf u h true true)
+    diagonal-steps : MoveFits s (moveOf u h true true)
     diagonal-steps = move-steps true true diagonal-x diagonal-y
 
     diagonal-spot : SpotAt u course a (i + 1) (spotAfter s (moveOf u h true true) (s .rest - (2 * a .larger - 2 * a .smaller)))
     diagonal-spot = move-spot true true diagonal-x diagonal-y
         (ap (λ (k : ℕ). k - (2 * a .larger - 2 * a .smaller)) (at .rest) ∙ sym (diagonal-rest a sl i some (rw (at .rest) at high)))
 
-  pub walk-treads : Treads s (gaitOf u (course .heading) a)
-  walk-treads = record {
+  pub walk-fits : NextFits s (lineStepsOf u (course .heading) a)
+  walk-fits = record {
     straight = straight-steps;
     diagonal = diagonal-steps;
     rest = omega (arith, at .rest, rest-below a sl i some, sl .small, sl .order);
   }
 
-  pub walk-spot : SpotAt u course a (i + 1) (nextSpot s (gaitOf u (course .heading) a))
+  pub walk-spot : SpotAt u course a (i + 1) (nextSpot s (lineStepsOf u (course .heading) a))
   unfolding nextSpot
   walk-spot = split (ltb (s .rest) (2 * a .larger - 2 * a .smaller))
       (λ e. rw e (straight-spot (ltb-true (s .rest) (2 * a .larger - 2 * a .smaller) e)))

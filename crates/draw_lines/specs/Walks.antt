@@ -20,7 +20,7 @@ use Rattle.canvas.specs.Targets.{placeOn}
 use Rattle.strips.specs.Strips.{InRow}
 use Rattle.draw_lines.specs.declared.segments.Segment.{Segment}
 use Rattle.draw_lines.specs.declared.slopes.Axes.{Axes}
-use Rattle.draw_lines.specs.declared.walks.Gait.{Gait}
+use Rattle.draw_lines.specs.declared.walks.LineSteps.{LineSteps}
 use Rattle.draw_lines.specs.declared.walks.Move.{Move}
 use Rattle.draw_lines.specs.declared.walks.Spot.{Spot}
 use Rattle.draw_lines.specs.Edges.{LineEdges}
@@ -55,7 +55,7 @@ pub record SpotAt (u : Surface) (course : Course) (a : Axes) (i : ℕ) (s : Spot
   pub bit : s .bit ≡ (u .left + columnOn course a i) * u .bits
   pub rest : s .rest ≡ restOf a i
 
--- ## Steps
+-- ## MoveFits
 
 -- a step in a direction, along x or not, along y or not
 abbrev pub moveOf : Surface → Heading → Bool → Bool → Move
@@ -68,8 +68,8 @@ moveOf u h x y =
     }
 
 -- the two steps of a line
-abbrev pub gaitOf : Surface → Heading → Axes → Gait
-gaitOf u h a =
+abbrev pub lineStepsOf : Surface → Heading → Axes → LineSteps
+lineStepsOf u h a =
     record {
       straight = moveOf u h (a .level) (not (a .level));
       diagonal = moveOf u h true true;
@@ -78,16 +78,16 @@ gaitOf u h a =
     }
 
 -- a step can be made: its numbers are not negative, and fit the machine's
-pub record Steps (s : Spot) (m : Move) : Type 0 where
+pub record MoveFits (s : Spot) (m : Move) : Type 0 where
   pub up : m .up ≤ s .row + m .down
   pub left : m .left ≤ s .bit + m .right
   pub rows : s .row + m .down < 2 ^ 64
   pub bits : s .bit + m .right < 2 ^ 64
 
 -- the step that the rest tells can be made
-pub record Treads (s : Spot) (g : Gait) : Type 0 where
-  pub straight : s .rest < g .over → Steps s (g .straight)
-  pub diagonal : g .over ≤ s .rest → Steps s (g .diagonal)
+pub record NextFits (s : Spot) (g : LineSteps) : Type 0 where
+  pub straight : s .rest < g .over → MoveFits s (g .straight)
+  pub diagonal : g .over ≤ s .rest → MoveFits s (g .diagonal)
   pub rest : s .rest + g .rise < 2 ^ 64
 
 -- a spot after a step
@@ -95,7 +95,7 @@ abbrev pub spotAfter : Spot → Move → ℕ → Spot
 spotAfter s m rest = record { row = s .row + m .down - m .up; bit = s .bit + m .right - m .left; rest = rest }
 
 -- the next spot of a line
-unfoldable pub nextSpot : Spot → Gait → Spot
+unfoldable pub nextSpot : Spot → LineSteps → Spot
 nextSpot s g =
     cond (ltb (s .rest) (g .over)) (spotAfter s (g .straight) (s .rest + g .rise))
     (spotAfter s (g .diagonal) (s .rest - g .over))

@@ -4,8 +4,8 @@ ghost use mathlib.Core.Path.{_≡_};
 ghost use Prim.Native.Nat.{_<_, _^_};
 ghost use Rattle.stamps.specs.Stamps.{StampsOf};
 ghost use Rattle.draw_lines.specs.Segments.{Sloped};
-ghost use Rattle.draw_lines.specs.Walks.{Steps, Treads, SpotAt, Locatable, Walkable};
-ghost use Rattle.draw_lines.specs.Walks.{moveOf, gaitOf, spotAfter, nextSpot, traced};
+ghost use Rattle.draw_lines.specs.Walks.{MoveFits, NextFits, SpotAt, Locatable, Walkable};
+ghost use Rattle.draw_lines.specs.Walks.{moveOf, lineStepsOf, spotAfter, nextSpot, traced};
 use crate::segments::Segment;
 use crate::slopes::Axes;
 use crate::slopes::slope_at;
@@ -28,7 +28,7 @@ pub struct Move {
 
 // The two steps of a line: along the major axis, or along both. The rest of a pixel's minor offset tells which: below
 // `over` the step is straight and the rest becomes larger by `rise`, else smaller by `over`.
-pub struct Gait {
+pub struct LineSteps {
     pub straight: Move,
     pub diagonal: Move,
     pub rise: usize,
@@ -59,14 +59,14 @@ fn move_of(u: Surface, heading: Heading, x: bool, y: bool) -> Move
 }
 
 // The steps of a line.
-fn gait_of(u: Surface, heading: Heading, axes: Axes) -> Gait
+fn line_steps_of(u: Surface, heading: Heading, axes: Axes) -> LineSteps
     requires { ⌜ (u .words < 2 ^ 63) × Sloped axes ⌝ }
-    ensures { λ r. ⌜ r ≡ gaitOf u heading axes ⌝ }
+    ensures { λ r. ⌜ r ≡ lineStepsOf u heading axes ⌝ }
 {
     let straight = move_of(u, heading, axes.level, !axes.level);
     let diagonal = move_of(u, heading, true, true);
     let rise = 2 * axes.smaller;
-    Gait {
+    LineSteps {
         straight,
         diagonal,
         rise,
@@ -93,7 +93,7 @@ fn spot_of(u: Surface, course: Course, axes: Axes, i: usize) -> Spot
 
 // A spot after a step.
 fn spot_after(s: Spot, m: Move, rest: usize) -> Spot
-    requires { ⌜ Steps s m ⌝ }
+    requires { ⌜ MoveFits s m ⌝ }
     ensures { λ r. ⌜ r ≡ spotAfter s m rest ⌝ }
 {
     Spot {
@@ -104,8 +104,8 @@ fn spot_after(s: Spot, m: Move, rest: usize) -> Spot
 }
 
 // The next spot of a line.
-fn next_spot(s: Spot, g: Gait) -> Spot
-    requires { ⌜ Treads s g ⌝ }
+fn next_spot(s: Spot, g: LineSteps) -> Spot
+    requires { ⌜ NextFits s g ⌝ }
     ensures { λ r. ⌜ r ≡ nextSpot s g ⌝ }
 {
     if s.rest < g.over {
@@ -129,7 +129,7 @@ pub fn walk(
 {
     let area = t.area;
     let pen = t.pen;
-    let gait = gait_of(area.surface, course.heading, axes);
+    let steps = line_steps_of(area.surface, course.heading, axes);
     let mut spot = spot_of(area.surface, course, axes, e.first);
     let mut pattern = strips::patterns::rotate_left(
         pen.pattern,
@@ -144,7 +144,7 @@ pub fn walk(
     );
     let mut i = e.first;
     while i + 1 < e.second {
-        spot = next_spot(spot, gait);
+        spot = next_spot(spot, steps);
         pattern = turned(pattern);
         stamp(
             buffer,

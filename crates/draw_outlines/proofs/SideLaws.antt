@@ -22,7 +22,7 @@ use Rattle.spans.specs.declared.Span.{Span}
 use Rattle.spans.specs.Spans.{Bounded, spanDot, spanDots}
 use Rattle.draw_outlines.specs.declared.Outline.{Outline}
 use Rattle.draw_outlines.specs.declared.uprights.Upright.{Upright}
-use Rattle.draw_outlines.specs.Uprights.{uprightDot, uprightDots, Erect}
+use Rattle.draw_outlines.specs.Uprights.{uprightDot, uprightDots, UprightSmall}
 use Rattle.draw_outlines.specs.Outlines.{Small, SideOf, UprightOf, outlineDot, outlineLength}
 use Rattle.draw_outlines.proofs.RectLaws.{listed-part, side1, side2, side3, side4}
 
@@ -90,11 +90,11 @@ side-of o i n s b e h = record {
 }
 
 -- .. and such an upright run
-upright-of : (o : Outline) (i n : ℕ) (s : Upright) → Erect s → s .count ≡ n
+upright-of : (o : Outline) (i n : ℕ) (s : Upright) → UprightSmall s → s .count ≡ n
     → ((pen : Pen) (k : ℕ) → k < n → uprightDot pen s k ≡ outlineDot pen o (i + k)) → UprightOf o i n s
 unfolding uprightDots
 upright-of o i n s b e h = record {
-  erect = b;
+  numbers = b;
   dots = λ pen. ap (λ (m : ℕ). listed 0 m (uprightDot pen s)) e ∙ listed-from (uprightDot pen s) (outlineDot pen o) i n (h pen);
 }
 

@@ -35,9 +35,9 @@ use Rattle.strips.proofs.WindowLaws.{Window, drawnDots, window-drawn}
 use Rattle.stamps.specs.Stamps.{StampsOf, stampByte, stamped}
 use Rattle.stamps.proofs.TrailLaws.{Trail, trail-in, trail-next, rotated-on}
 use Rattle.draw_outlines.specs.declared.uprights.Upright.{Upright}
-use Rattle.draw_outlines.specs.declared.uprights.Footing.{Footing}
-use Rattle.draw_outlines.specs.Uprights.{uprightPlace, uprightDot, uprightDots, UprightEdges, levelOf, rowStart}
-use Rattle.draw_outlines.specs.Uprights.{Footed, FootingAt, Climbable, climbed}
+use Rattle.draw_outlines.specs.declared.uprights.UprightStep.{UprightStep}
+use Rattle.draw_outlines.specs.Uprights.{uprightPlace, uprightDot, uprightDots, UprightEdges, uprightLevel, uprightRow}
+use Rattle.draw_outlines.specs.Uprights.{UprightInside, UprightStepAt, UprightDrawable, uprightChanged}
 
 -- ## The edges
 
@@ -128,9 +128,9 @@ unbiased-natural a h = split (ltb a 65536)
 pub record Placed (clip : Clip) (s : Upright) (i : ℕ) : Type 0 where
   pub west : 65536 ≤ s .x
   pub east : s .x ≤ clip .xmax + 65536
-  pub north : 65536 ≤ levelOf s i
-  pub south : levelOf s i ≤ clip .ymax + 65536
-  pub place : uprightPlace s i ≡ at (pos (s .x - 65536)) (pos (levelOf s i - 65536))
+  pub north : 65536 ≤ uprightLevel s i
+  pub south : uprightLevel s i ≤ clip .ymax + 65536
+  pub place : uprightPlace s i ≡ at (pos (s .x - 65536)) (pos (uprightLevel s i - 65536))
 
 placed : (clip : Clip) (s : Upright) (i : ℕ)
     → (between (clip .xmin) (clip .xmax) (uprightPlace s i .x) && between (clip .ymin) (clip .ymax) (uprightPlace s i .y)) ≡ true → Placed clip s i
@@ -143,20 +143,20 @@ placed clip s i h = split (s .up) back on
     column : (clip .xmin + 65536 ≤ s .x) × (s .x ≤ clip .xmax + 65536)
     column = between-holds (clip .xmin) (clip .xmax) (s .x) (both .0)
 
-    make : 65536 ≤ levelOf s i → levelOf s i ≤ clip .ymax + 65536 → unbiased (s .y) +ℤ directed (s .up) i ≡ unbiased (levelOf s i) → Placed clip s i
+    make : 65536 ≤ uprightLevel s i → uprightLevel s i ≤ clip .ymax + 65536 → unbiased (s .y) +ℤ directed (s .up) i ≡ unbiased (uprightLevel s i) → Placed clip s i
     make a b e = record {
       west = omega (arith, column);
       east = column .1;
       north = a;
       south = b;
-      place = ap₂ at (unbiased-natural (s .x) (omega (arith, column))) (e ∙ unbiased-natural (levelOf s i) a);
+      place = ap₂ at (unbiased-natural (s .x) (omega (arith, column))) (e ∙ unbiased-natural (uprightLevel s i) a);
     }
 
     on : s .up ≡ false → Placed clip s i
     on r =
         let e : unbiased (s .y) +ℤ directed (s .up) i ≡ unbiased (s .y + i) = rw r (unbiased-on (s .y) i) in
         let b = between-holds (clip .ymin) (clip .ymax) (s .y + i) (rw e at (both .1)) in
-        let l : levelOf s i ≡ s .y + i = rw r refl in
+        let l : uprightLevel s i ≡ s .y + i = rw r refl in
         make (omega (arith, b, l)) (omega (arith, b, l)) (e ∙ ap unbiased (sym l))
 
     back : s .up ≡ true → Placed clip s i
@@ -165,7 +165,7 @@ placed clip s i h = split (s .up) back on
         (sym (between-back (clip .ymin) (clip .ymax) (s .y) i) ∙ (rw r at (both .1))) in
         let p = leb-true _ i (b .0) in
         let q = ltb-true i _ (b .1) in
-        let l : levelOf s i ≡ s .y - i = rw r refl in
+        let l : uprightLevel s i ≡ s .y - i = rw r refl in
         let e : unbiased (s .y) +ℤ directed (s .up) i ≡ unbiased (s .y - i) = rw r (unbiased-back (s .y) i (omega arith)) in
         make (omega arith) (omega arith) (e ∙ ap unbiased (sym l))
 
@@ -176,8 +176,8 @@ abbrev Beside : Bool → ℕ → ℕ → Type 0
 Beside false p q = q ≡ p + 1
 Beside true p q = p ≡ q + 1
 
-level-next : (s : Upright) (i : ℕ) → 65536 ≤ levelOf s i → 65536 ≤ levelOf s (i + 1)
-    → Beside (s .up) (levelOf s i - 65536) (levelOf s (i + 1) - 65536)
+level-next : (s : Upright) (i : ℕ) → 65536 ≤ uprightLevel s i → 65536 ≤ uprightLevel s (i + 1)
+    → Beside (s .up) (uprightLevel s i - 65536) (uprightLevel s (i + 1) - 65536)
 level-next s i h k = go (s .up) (s .y) h k
   where
     go : (up : Bool) (y : ℕ) → 65536 ≤ cond up (y - i) (y + i) → 65536 ≤ cond up (y - (i + 1)) (y + (i + 1))
@@ -191,29 +191,29 @@ row-next : (up : Bool) (base w t p q : ℕ) → Beside up p q
 row-next false base w t p q e = (rw e (omega arith), omega arith, omega arith)
 row-next true base w t p q e = (rw e (omega arith), rw e (omega arith), omega arith)
 
--- ## The climb
+-- ## The draw_column
 
--- all that a climb of n pixels has at its start
-pub record Outset (stamps : List ℕ) (foot : Footing) (n : ℕ) : Type 0 where
+-- all that a draw_column of n pixels has at its start
+pub record Outset (stamps : List ℕ) (step : UprightStep) (n : ℕ) : Type 0 where
   pub t : Target
   pub s : Upright
   pub e : Edges
   pub old : List ℕ
-  pub climbable : Climbable t s e old
+  pub drawable : UprightDrawable t s e old
   pub table : StampsOf (t .pen) (t .area .surface .bits) stamps
   pub small : Bytes stamps
   pub bytes : Bytes old
   pub short : length old < 2 ^ 64
-  pub footing : FootingAt (t .area .surface) s (e .first) foot
+  pub stepIs : UprightStepAt (t .area .surface) s (e .first) step
   pub number : n ≡ e .second - e .first
 
 -- a visible pixel's place
-pub placed-at : {t : Target} {s : Upright} {e : Edges} {buffer : List ℕ} → Climbable t s e buffer → (i : ℕ) → e .first ≤ i → i < e .second
+pub placed-at : {t : Target} {s : Upright} {e : Edges} {buffer : List ℕ} → UprightDrawable t s e buffer → (i : ℕ) → e .first ≤ i → i < e .second
     → Placed (t .clip) s i
 placed-at {t} {s} {e} c i a b = placed (t .clip) s i (c .edges .exactly i (omega (arith, c .edges .last)) ∙ within-true (e .first) i (e .second) a b)
 
-in-row : {t : Target} {s : Upright} {e : Edges} {buffer : List ℕ} → Climbable t s e buffer → (i : ℕ) → Placed (t .clip) s i
-    → InRow (t .area .surface) buffer (s .x - 65536) (levelOf s i - 65536) 1
+in-row : {t : Target} {s : Upright} {e : Edges} {buffer : List ℕ} → UprightDrawable t s e buffer → (i : ℕ) → Placed (t .clip) s i
+    → InRow (t .area .surface) buffer (s .x - 65536) (uprightLevel s i - 65536) 1
 in-row c i p = record {
   fits = c .fits;
   small = c .small;
@@ -221,12 +221,12 @@ in-row c i p = record {
   row = omega (arith, p .north, p .south, c .south);
 }
 
-pub footed : {t : Target} {s : Upright} {e : Edges} {buffer : List ℕ} → Climbable t s e buffer → length buffer < 2 ^ 64 → Footed (t .area .surface) s (e .first)
-footed {e = e} {buffer = buffer} c h =
+pub upright-inside : {t : Target} {s : Upright} {e : Edges} {buffer : List ℕ} → UprightDrawable t s e buffer → length buffer < 2 ^ 64 → UprightInside (t .area .surface) s (e .first)
+upright-inside {e = e} {buffer = buffer} c h =
     let p = placed-at c (e .first) (omega arith) (c .some) in
     record {
-      erect = c .erect;
-      number = omega (arith, c .some, c .edges .last, c .erect .count);
+      numbers = c .numbers;
+      number = omega (arith, c .some, c .edges .last, c .numbers .count);
       buffer = buffer;
       short = h;
       east = p .west;
@@ -235,15 +235,15 @@ footed {e = e} {buffer = buffer} c h =
     }
 
 -- the numbers on the way to a pixel's place, its row 65,536 larger being y
-pub record FootingSized (u : Surface) (s : Upright) (y : ℕ) : Type 0 where
+pub record StepSized (u : Surface) (s : Upright) (y : ℕ) : Type 0 where
   pub stride : 2 * u .words < 2 ^ 64
   pub down : u .top + (y - 65536) < 2 ^ 64
   pub line : u .base + 2 * (u .words * (u .top + (y - 65536))) < 2 ^ 64
   pub bits : (u .left + (s .x - 65536)) * u .bits ≤ 524288
 
-pub footing-sized : {u : Surface} {s : Upright} {i y : ℕ} → Footed u s i → y ≡ levelOf s i → FootingSized u s y
-footing-sized {u} {s} {i} l e =
-    let z = sized u (l .buffer) (s .x - 65536) (levelOf s i - 65536) 1 (l .inside) (omega arith) in
+pub step-sized : {u : Surface} {s : Upright} {i y : ℕ} → UprightInside u s i → y ≡ uprightLevel s i → StepSized u s y
+step-sized {u} {s} {i} l e =
+    let z = sized u (l .buffer) (s .x - 65536) (uprightLevel s i - 65536) 1 (l .inside) (omega arith) in
     record {
       stride = omega (arith, z .room, l .short);
       down = rw e (omega (arith, z .down, l .short));
@@ -251,124 +251,124 @@ footing-sized {u} {s} {i} l e =
       bits = omega (arith, z .short);
     }
 
-module _ {stamps : List ℕ} {foot : Footing} {n : ℕ} (c : Outset stamps foot n) where
+module _ {stamps : List ℕ} {step : UprightStep} {n : ℕ} (c : Outset stamps step n) where
   here : (k : ℕ) → k < n → Placed (c .t .clip) (c .s) (c .e .first + k)
-  here k h = placed-at (c .climbable) (c .e .first + k) (omega arith) (omega (arith, c .number))
+  here k h = placed-at (c .drawable) (c .e .first + k) (omega arith) (omega (arith, c .number))
 
   trail : Trail (c .t .area .surface) (c .t .clip) (c .t .pen) (uprightDot (c .t .pen) (c .s)) (c .e .first) n (c .s .index + c .e .first)
-      (λ k. c .s .x - 65536) (λ k. levelOf (c .s) (c .e .first + k) - 65536) stamps (c .old)
+      (λ k. c .s .x - 65536) (λ k. uprightLevel (c .s) (c .e .first + k) - 65536) stamps (c .old)
   unfolding uprightDot
   trail = record {
-    fits = c .climbable .fits;
-    small = c .climbable .small;
+    fits = c .drawable .fits;
+    small = c .drawable .small;
     table = c .table;
     stampBytes = c .small;
     oldBytes = c .bytes;
     dots = λ k h. ap₂ dot (here k h .place) (ap (patternSource (c .t .pen)) (same k));
     seen = λ k h.
-        inside-seen (c .t) (c .s) (c .e) (c .climbable .east) (c .climbable .south) (c .climbable .edges) (c .e .first + k) (omega arith)
+        inside-seen (c .t) (c .s) (c .e) (c .drawable .east) (c .drawable .south) (c .drawable .edges) (c .e .first + k) (omega arith)
         (omega (arith, c .number))
         ∙ ap (λ (i : ℕ). something (patternSource (c .t .pen) i)) (same k);
-    columns = λ k h. omega (arith, here k h .west, here k h .east, c .climbable .east);
-    rows = λ k h. omega (arith, here k h .north, here k h .south, c .climbable .south);
+    columns = λ k h. omega (arith, here k h .west, here k h .east, c .drawable .east);
+    rows = λ k h. omega (arith, here k h .north, here k h .south, c .drawable .south);
   }
     where
       same : (k : ℕ) → c .s .index + (c .e .first + k) ≡ c .s .index + c .e .first + k
       same k = omega arith
 
   -- pixel k of the visible ones is the last that is stamped
-  pub record Climbed (buffer : List ℕ) (row pattern k : ℕ) : Type 0 where
+  pub record ColumnDrawn (buffer : List ℕ) (row pattern k : ℕ) : Type 0 where
     pub drawn : buffer ≡ drawnDots (c .t .area .surface) (c .t .clip) (c .t .pen) (uprightDot (c .t .pen) (c .s)) (c .e .first) (k + 1) (c .old)
-    pub at : row ≡ rowStart (c .t .area .surface) (c .s) (c .e .first + k)
+    pub at : row ≡ uprightRow (c .t .area .surface) (c .s) (c .e .first + k)
     pub turned : RotatedLeft (c .t .pen .pattern) (c .s .index + c .e .first + k) pattern
     pub more : k < n
 
   -- a pixel's byte lies in the buffer
-  pub foot-in : (k row : ℕ) → k < n → row ≡ rowStart (c .t .area .surface) (c .s) (c .e .first + k) → stampByte row (foot .bit) < length (c .old)
-  foot-in k row h e = trail-in trail k h row (foot .bit) e (c .footing .bit)
+  pub step-in : (k row : ℕ) → k < n → row ≡ uprightRow (c .t .area .surface) (c .s) (c .e .first + k) → stampByte row (step .bit) < length (c .old)
+  step-in k row h e = trail-in trail k h row (step .bit) e (c .stepIs .bit)
 
-  foot-row : foot .row ≡ rowStart (c .t .area .surface) (c .s) (c .e .first + 0)
-  foot-row = let z : c .e .first ≡ c .e .first + 0 = omega arith in c .footing .row ∙ ap (rowStart (c .t .area .surface) (c .s)) z
+  step-row : step .row ≡ uprightRow (c .t .area .surface) (c .s) (c .e .first + 0)
+  step-row = let z : c .e .first ≡ c .e .first + 0 = omega arith in c .stepIs .row ∙ ap (uprightRow (c .t .area .surface) (c .s)) z
 
   pub some : 0 < n
-  some = omega (arith, c .number, c .climbable .some)
+  some = omega (arith, c .number, c .drawable .some)
 
-  pub first-in : stampByte (foot .row) (foot .bit) < length (c .old)
-  first-in = foot-in 0 (foot .row) some foot-row
+  pub first-in : stampByte (step .row) (step .bit) < length (c .old)
+  first-in = step-in 0 (step .row) some step-row
 
   -- how many there are at most
   pub most : n ≤ longestSpan
-  most = omega (arith, c .number, c .climbable .edges .last, c .climbable .erect .count)
+  most = omega (arith, c .number, c .drawable .edges .last, c .drawable .numbers .count)
 
   -- the first pixel
-  pub climbed-first : {row pattern on : ℕ} {buffer : List ℕ} → row ≡ foot .row → pattern < 65536
+  pub column-first : {row pattern on : ℕ} {buffer : List ℕ} → row ≡ step .row → pattern < 65536
       → RotatedLeft (c .t .pen .pattern) (c .s .index + c .e .first) pattern → on ≡ pattern / 32768
-      → buffer ≡ stamped stamps row (foot .bit) on (c .old) → Climbed buffer row pattern 0
+      → buffer ≡ stamped stamps row (step .bit) on (c .old) → ColumnDrawn buffer row pattern 0
   unfolding listed changesOf changes
-  climbed-first {row} {pattern} er l r o q =
+  column-first {row} {pattern} er l r o q =
       let w : c .s .index + c .e .first ≡ c .s .index + c .e .first + 0 = omega arith in
-      let e : row ≡ rowStart (c .t .area .surface) (c .s) (c .e .first + 0) = er ∙ foot-row in
+      let e : row ≡ uprightRow (c .t .area .surface) (c .s) (c .e .first + 0) = er ∙ step-row in
       let v : RotatedLeft (c .t .pen .pattern) (c .s .index + c .e .first + 0) pattern = rw w at r in
       record {
-        drawn = q ∙ trail-next trail 0 some row (foot .bit) e (c .footing .bit) l v o;
+        drawn = q ∙ trail-next trail 0 some row (step .bit) e (c .stepIs .bit) l v o;
         at = e;
         turned = v;
         more = some;
       }
 
-  module _ {buffer : List ℕ} {row pattern k : ℕ} (w : Climbed buffer row pattern k) where
-    pub climbed-length : length buffer ≡ length (c .old)
-    climbed-length = ap length (w .drawn) ∙ changes-length (c .t .area .surface) _ (c .old)
+  module _ {buffer : List ℕ} {row pattern k : ℕ} (w : ColumnDrawn buffer row pattern k) where
+    pub column-length : length buffer ≡ length (c .old)
+    column-length = ap length (w .drawn) ∙ changes-length (c .t .area .surface) _ (c .old)
 
     module _ (more : k + 1 < n) where
-      beside : Beside (c .s .up) (levelOf (c .s) (c .e .first + k) - 65536) (levelOf (c .s) (c .e .first + (k + 1)) - 65536)
+      beside : Beside (c .s .up) (uprightLevel (c .s) (c .e .first + k) - 65536) (uprightLevel (c .s) (c .e .first + (k + 1)) - 65536)
       beside =
           let z : c .e .first + (k + 1) ≡ c .e .first + k + 1 = omega arith in
           rw z (level-next (c .s) (c .e .first + k) (here k (w .more) .north) (rw z at (here (k + 1) more .north)))
 
       -- the step to the next row can be made
       pub record Stepped : Type 0 where
-        pub down : row + foot .down < 2 ^ 64
-        pub up : foot .up ≤ row + foot .down
-        pub at : row + foot .down - foot .up ≡ rowStart (c .t .area .surface) (c .s) (c .e .first + (k + 1))
+        pub down : row + step .down < 2 ^ 64
+        pub up : step .up ≤ row + step .down
+        pub at : row + step .down - step .up ≡ uprightRow (c .t .area .surface) (c .s) (c .e .first + (k + 1))
 
       pub stepped : Stepped
       stepped =
           let r = row-next (c .s .up) (c .t .area .surface .base) (c .t .area .surface .words) (c .t .area .surface .top)
-          (levelOf (c .s) (c .e .first + k) - 65536) (levelOf (c .s) (c .e .first + (k + 1)) - 65536) beside in
-          let z = sized (c .t .area .surface) (c .old) (c .s .x - 65536) (levelOf (c .s) (c .e .first + k) - 65536) 1
-          (in-row (c .climbable) (c .e .first + k) (here k (w .more))) (omega arith) in
+          (uprightLevel (c .s) (c .e .first + k) - 65536) (uprightLevel (c .s) (c .e .first + (k + 1)) - 65536) beside in
+          let z = sized (c .t .area .surface) (c .old) (c .s .x - 65536) (uprightLevel (c .s) (c .e .first + k) - 65536) 1
+          (in-row (c .drawable) (c .e .first + k) (here k (w .more))) (omega arith) in
           record {
-            down = rw (w .at, c .footing .down) (omega (arith, z .room, r .2, c .short));
-            up = rw (w .at, c .footing .down, c .footing .up) (r .1);
-            at = rw (w .at, c .footing .down, c .footing .up) (r .0);
+            down = rw (w .at, c .stepIs .down) (omega (arith, z .room, r .2, c .short));
+            up = rw (w .at, c .stepIs .down, c .stepIs .up) (r .1);
+            at = rw (w .at, c .stepIs .down, c .stepIs .up) (r .0);
           }
 
       -- the next pixel
-      pub climbed-in : {row′ : ℕ} → row′ ≡ row + foot .down - foot .up → stampByte row′ (foot .bit) < length buffer
-      climbed-in {row′} q = rw climbed-length (foot-in (k + 1) row′ more (q ∙ stepped .at))
+      pub column-in : {row′ : ℕ} → row′ ≡ row + step .down - step .up → stampByte row′ (step .bit) < length buffer
+      column-in {row′} q = rw column-length (step-in (k + 1) row′ more (q ∙ stepped .at))
 
-      pub climbed-next : {row′ on : ℕ} (pattern′ : ℕ) {buffer′ : List ℕ} → row′ ≡ row + foot .down - foot .up → pattern′ < 65536
-          → RotatedLeft pattern 1 pattern′ → on ≡ pattern′ / 32768 → buffer′ ≡ stamped stamps row′ (foot .bit) on buffer
-          → Climbed buffer′ row′ pattern′ (k + 1)
-      climbed-next {row′} {on} pattern′ q l r o b =
+      pub column-next : {row′ on : ℕ} (pattern′ : ℕ) {buffer′ : List ℕ} → row′ ≡ row + step .down - step .up → pattern′ < 65536
+          → RotatedLeft pattern 1 pattern′ → on ≡ pattern′ / 32768 → buffer′ ≡ stamped stamps row′ (step .bit) on buffer
+          → ColumnDrawn buffer′ row′ pattern′ (k + 1)
+      column-next {row′} {on} pattern′ q l r o b =
           let z : c .s .index + c .e .first + k + 1 ≡ c .s .index + c .e .first + (k + 1) = omega arith in
           let v : RotatedLeft (c .t .pen .pattern) (c .s .index + c .e .first + (k + 1)) pattern′
           = rw z at (rotated-on (c .t .pen .pattern) (c .s .index + c .e .first + k) pattern pattern′ (w .turned) r) in
           record {
             drawn =
-                b ∙ ap (stamped stamps row′ (foot .bit) on) (w .drawn)
-                ∙ trail-next trail (k + 1) more row′ (foot .bit) (q ∙ stepped .at) (c .footing .bit) l v o;
+                b ∙ ap (stamped stamps row′ (step .bit) on) (w .drawn)
+                ∙ trail-next trail (k + 1) more row′ (step .bit) (q ∙ stepped .at) (c .stepIs .bit) l v o;
             at = q ∙ stepped .at;
             turned = v;
             more = more;
           }
 
   -- the last pixel
-  pub climbed-last : {buffer : List ℕ} {row pattern k : ℕ} → Climbed buffer row pattern k → n ≤ k + 1 → buffer ≡ climbed (c .t) (c .s) (c .old)
-  unfolding climbed uprightDots
-  climbed-last {k = k} w h =
+  pub column-last : {buffer : List ℕ} {row pattern k : ℕ} → ColumnDrawn buffer row pattern k → n ≤ k + 1 → buffer ≡ uprightChanged (c .t) (c .s) (c .old)
+  unfolding uprightChanged uprightDots
+  column-last {k = k} w h =
       let z : k + 1 ≡ c .e .second - c .e .first = omega (arith, w .more, c .number) in
       w .drawn ∙ ap (λ (m : ℕ). drawnDots (c .t .area .surface) (c .t .clip) (c .t .pen) (uprightDot (c .t .pen) (c .s)) (c .e .first) m (c .old)) z
       ∙ sym (window-drawn (c .t .area .surface) (c .t .clip) (c .t .pen) (uprightDot (c .t .pen) (c .s))
-      (upright-window (c .t) (c .s) (c .e) (c .climbable .east) (c .climbable .south) (c .climbable .edges) (c .climbable .some)) (c .old))
+      (upright-window (c .t) (c .s) (c .e) (c .drawable .east) (c .drawable .south) (c .drawable .edges) (c .drawable .some)) (c .old))

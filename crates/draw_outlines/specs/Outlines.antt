@@ -13,7 +13,7 @@ use Rattle.spans.specs.declared.Span.{Span}
 use Rattle.spans.specs.Spans.{Bounded, spanDots}
 use Rattle.draw_outlines.specs.declared.Outline.{Outline}
 use Rattle.draw_outlines.specs.declared.uprights.Upright.{Upright}
-use Rattle.draw_outlines.specs.Uprights.{Erect, uprightDots}
+use Rattle.draw_outlines.specs.Uprights.{UprightSmall, uprightDots}
 
 -- the sides are magnitudes of 16-bit offsets
 pub record Small (o : Outline) : Type 0 where
@@ -50,5 +50,5 @@ pub record SideOf (o : Outline) (i n : ℕ) (s : Span) : Type 0 where
 
 -- .. and so is an upright run
 pub record UprightOf (o : Outline) (i n : ℕ) (s : Upright) : Type 0 where
-  pub erect : Erect s
+  pub numbers : UprightSmall s
   pub dots : (pen : Pen) → uprightDots pen s ≡ listed i n (outlineDot pen o)

@@ -8,8 +8,8 @@ ghost use Rattle.canvas.specs.Canvas.{canvas, countEnd, Painted};
 ghost use Rattle.canvas.specs.Targets.{Ready};
 ghost use Rattle.spans.specs.Spans.{longestSpan};
 ghost use Rattle.stamps.specs.Stamps.{StampsOf};
-ghost use Rattle.draw_outlines.specs.Uprights.{Erect, uprightDots, UprightEdges};
-ghost use Rattle.draw_outlines.specs.Uprights.{levelOf, Climbable, Footed, FootingAt, climbed};
+ghost use Rattle.draw_outlines.specs.Uprights.{UprightSmall, uprightDots, UprightEdges};
+ghost use Rattle.draw_outlines.specs.Uprights.{uprightLevel, UprightDrawable, UprightInside, UprightStepAt, uprightChanged};
 use canvas::Target;
 use coordinates::Edges;
 use model::Clip;
@@ -29,7 +29,7 @@ pub struct Upright {
 
 // Where a pixel of an upright run lies: the first byte of its row, and its first bit from the left there. The next
 // pixel's row is so many bytes further down or up.
-pub struct Footing {
+pub struct UprightStep {
     pub row: usize,
     pub bit: usize,
     pub down: usize,
@@ -38,7 +38,7 @@ pub struct Footing {
 
 // The two edges of an upright run: the pixels from the first to below the second are those in the clip.
 fn edges_of(clip: Clip, s: Upright) -> Edges
-    requires { ⌜ Erect s ⌝ }
+    requires { ⌜ UprightSmall s ⌝ }
     ensures { λ e. ⌜ UprightEdges clip s e ⌝ }
 {
     if s.x < clip.xmin as usize + 65536 {
@@ -57,9 +57,9 @@ fn edges_of(clip: Clip, s: Upright) -> Edges
 }
 
 // The row of pixel i, 65,536 larger.
-fn level_of(s: Upright, i: usize) -> usize
-    requires { ⌜ Erect s × (i < longestSpan) × (65536 ≤ levelOf s i) ⌝ }
-    ensures { λ r. ⌜ r ≡ levelOf s i ⌝ }
+fn level_at(s: Upright, i: usize) -> usize
+    requires { ⌜ UprightSmall s × (i < longestSpan) × (65536 ≤ uprightLevel s i) ⌝ }
+    ensures { λ r. ⌜ r ≡ uprightLevel s i ⌝ }
 {
     if s.up {
         return s.y - i;
@@ -68,13 +68,13 @@ fn level_of(s: Upright, i: usize) -> usize
 }
 
 // Where pixel i lies, which is a pixel of the surface.
-fn footing_of(u: Surface, s: Upright, i: usize) -> Footing
-    requires { ⌜ Footed u s i ⌝ }
-    ensures { λ r. ⌜ FootingAt u s i r ⌝ }
+fn step_of(u: Surface, s: Upright, i: usize) -> UprightStep
+    requires { ⌜ UprightInside u s i ⌝ }
+    ensures { λ r. ⌜ UprightStepAt u s i r ⌝ }
 {
-    let y = level_of(s, i);
+    let y = level_at(s, i);
     let stride = 2 * u.words;
-    Footing {
+    UprightStep {
         row: u.base + 2 * (u.words * (u.top + (y - 65536))),
         bit: (u.left + (s.x - 65536)) * u.bits,
         down: words::either(s.up, 0, stride),
@@ -83,41 +83,41 @@ fn footing_of(u: Surface, s: Upright, i: usize) -> Footing
 }
 
 // The visible pixels of an upright run drawn in the buffer that holds the bitmap.
-fn climb(buffer: &mut [u8], stamps: &[u8], t: Target, s: Upright, e: Edges)
-    requires { ⌜ Climbable t s e (now buffer) × StampsOf (t .pen) (t .area .surface .bits) (now stamps) ⌝ }
-    ensures { λ _. ⌜ now (buffer .exit) ≡ climbed t s (now (buffer .entry)) ⌝ }
+fn draw_column(buffer: &mut [u8], stamps: &[u8], t: Target, s: Upright, e: Edges)
+    requires { ⌜ UprightDrawable t s e (now buffer) × StampsOf (t .pen) (t .area .surface .bits) (now stamps) ⌝ }
+    ensures { λ _. ⌜ now (buffer .exit) ≡ uprightChanged t s (now (buffer .entry)) ⌝ }
 {
     let area = t.area;
     let pen = t.pen;
-    let foot = footing_of(area.surface, s, e.first);
+    let step = step_of(area.surface, s, e.first);
     let n = e.second - e.first;
-    let mut row = foot.row;
+    let mut row = step.row;
     let mut pattern = strips::patterns::rotate_left(pen.pattern, (s.index + e.first) % 16);
-    stamp(buffer, stamps, row, foot.bit, (pattern / 32768) as usize);
+    stamp(buffer, stamps, row, step.bit, (pattern / 32768) as usize);
     let mut k = 0;
     while k + 1 < n {
-        row = row + foot.down - foot.up;
+        row = row + step.down - step.up;
         pattern = turned(pattern);
-        stamp(buffer, stamps, row, foot.bit, (pattern / 32768) as usize);
+        stamp(buffer, stamps, row, step.bit, (pattern / 32768) as usize);
         k += 1;
     }
 }
 
 // .. drawn on the bitmap.
 fn draw_part(screen: &mut [u8], store: &mut [u8], t: Target, s: Upright, e: Edges)
-    requires { ⌜ Ready t (length (now screen)) (length (now store)) × Erect s × UprightEdges (t .clip) s e
+    requires { ⌜ Ready t (length (now screen)) (length (now store)) × UprightSmall s × UprightEdges (t .clip) s e
         × (e .first < e .second) ⌝ }
     ensures { λ _. ⌜ (now (screen .exit) ≡ cond (t .area .onscreen)
-        (climbed t s (now (screen .entry))) (now (screen .entry)))
-        × (now (store .exit) ≡ cond (t .area .onscreen) (now (store .entry)) (climbed t s (now (store .entry)))) ⌝ }
+        (uprightChanged t s (now (screen .entry))) (now (screen .entry)))
+        × (now (store .exit) ≡ cond (t .area .onscreen) (now (store .entry)) (uprightChanged t s (now (store .entry)))) ⌝ }
 {
     let area = t.area;
     let u = area.surface;
     let stamps = stamps::stamps_of(t.pen, t.truth, u.bits);
     if area.onscreen {
-        climb(screen, &stamps, t, s, e);
+        draw_column(screen, &stamps, t, s, e);
     } else {
-        climb(store, &stamps, t, s, e);
+        draw_column(store, &stamps, t, s, e);
     }
 }
 
@@ -129,7 +129,7 @@ pub fn draw_upright(
     s: Upright,
     hits: usize,
 ) -> usize
-    requires { ⌜ Ready t (length (now screen)) (length (now store)) × Erect s × (hits + longestSpan < countEnd) ⌝ }
+    requires { ⌜ Ready t (length (now screen)) (length (now store)) × UprightSmall s × (hits + longestSpan < countEnd) ⌝ }
     ensures { λ r. ⌜ Painted t (uprightDots (t .pen) s)
         (canvas (now (screen .entry)) (now (store .entry)) hits) (canvas (now (screen .exit)) (now (store .exit)) r) ⌝ }
 {

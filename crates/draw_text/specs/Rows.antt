@@ -86,7 +86,8 @@ pub record RowsPlanned (t : Target) (s : CellStyle) (p : RowPlan) (f : Edges) : 
   pub width : p .span .count ≤ mostColumns
   pub east : t .clip .xmax < t .area .surface .width
   pub inside : (j : ℕ) → f .first ≤ j → j < f .second
-      → between (t .clip .ymin) (t .clip .ymax) (coord (s .course .from .y) +ℤ directed (s .course .heading .up) j) ≡ true
+      → between (t .clip .ymin) (t .clip .ymax) (coord (s .course .from .y) +ℤ directed (s .course .heading .up) j)
+      ≡ true
   pub ordered : f .first ≤ f .second
   pub last : f .second ≤ mostRows
 

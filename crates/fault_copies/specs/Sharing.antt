@@ -20,4 +20,5 @@ rowTo s b j = s .base + 2 * ((s .top + (b .y + j)) * s .words + (wordOf (s .bits
 pub record Unshared (target source : Area) (b : Block) : Type 0 where
   pub rows : source .onscreen ≡ target .onscreen → target .surface .base < rowsEnd (target .surface)
       → (j : ℕ) → j ≤ b .dy
-      → (rowTo (source .surface) b j ≤ target .surface .base) ⊎ (rowsEnd (target .surface) ≤ rowFrom (source .surface) b j)
+      → (rowTo (source .surface) b j ≤ target .surface .base)
+      ⊎ (rowsEnd (target .surface) ≤ rowFrom (source .surface) b j)

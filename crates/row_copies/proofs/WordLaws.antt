@@ -1,4 +1,4 @@
--- Words: what a operator makes of their bits, and the sixteen bits from any bit on of two words.
+-- Words: what an operator makes of their bits, and the sixteen bits from any bit on of two words.
 use mathlib.Core.Path.{_≡_, refl, sym, ap, ap₂, _∙_}
 use mathlib.Core.Logic.{_≢_}
 use mathlib.Core.Bool.{Bool, true, false, cond, _&&_, _||_}
@@ -22,7 +22,7 @@ use Rattle.row_copies.specs.declared.operators.Operator.{Operator}
 use Rattle.row_copies.specs.Rows.{inkOver, operatorBit, SoundOperator, OperatorOf, Plane}
 use Rattle.row_copies.specs.Chunks.{Muxed, Funnelled}
 
--- ## What a operator makes of a bit
+-- ## What an operator makes of a bit
 
 pub ink-bit : (x : Operator) (source j : ℕ) (d : Bool) → mixedBit (inkOver x source .keep) (inkOver x source .flip) j d ≡ operatorBit x j (bit source j) d
 unfolding operatorBit
@@ -34,7 +34,7 @@ ink-bit x source j d = ap₂ (λ (k f : Bool). differs (d && k) f) (part (x .q) 
 pub mixed-is : (x : Operator) (source old j : ℕ) → bit (mixed old (inkOver x source .keep) (inkOver x source .flip)) j ≡ operatorBit x j (bit source j) (bit old j)
 mixed-is x source old j = mixed-bit old (inkOver x source .keep) (inkOver x source .flip) j ∙ ink-bit x source j (bit old j)
 
--- ## A operator of an operation and a mask
+-- ## An operator of an operation and a mask
 
 pub mux-is : (m x y : ℕ) → Muxed m x y (bitXor x (bitAnd (bitXor x y) m))
 mux-is m x y = record {

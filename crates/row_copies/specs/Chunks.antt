@@ -35,7 +35,8 @@ pub record Funnelled8 (x y : List ℕ) (k n : ℕ) (r : List ℕ) : Type 0 where
   pub words : (i : ℕ) → i < n → Funnelled (getD x i 0) (getD y i 0) k (getD r i 0)
 
 pub record Mixed8 (s old : List ℕ) (x : Operator) (n : ℕ) (r : List ℕ) : Type 0 where
-  pub bits : (i : ℕ) → i < n → (j : ℕ) → bit (getD r i 0) j ≡ operatorBit x j (bit (getD s i 0) j) (bit (getD old i 0) j)
+  pub bits : (i : ℕ) → i < n → (j : ℕ)
+      → bit (getD r i 0) j ≡ operatorBit x j (bit (getD s i 0) j) (bit (getD old i 0) j)
 
 pub record Put8 (at : ℕ) (t : List ℕ) (n : ℕ) (old new : List ℕ) : Type 0 where
   pub length : length new ≡ length old

@@ -1,4 +1,5 @@
--- A row copied by words: what a operator makes of source and old bits, bits of a row from the left, what a copy asks for.
+-- A row copied by words: what an operator makes of source and old bits, bits of a row from the left, and what a copy
+-- asks for.
 use mathlib.Core.Path.{_≡_}
 use mathlib.Core.Logic.{_⊎_}
 use mathlib.Core.Bool.{Bool, true, false, cond, _&&_}
@@ -16,21 +17,22 @@ use Rattle.row_copies.specs.declared.operators.Operator.{Operator}
 use Rattle.row_copies.specs.declared.rows.RowCopy.{RowCopy}
 use Rattle.row_copies.specs.declared.rows.Ends.{Ends}
 
--- ## A operator
+-- ## An operator
 
--- what a operator makes of a word with a source word: (old & ((s & q) ^ r)) ^ ((s & p) ^ a)
+-- what an operator makes of a word with a source word: (old & ((s & q) ^ r)) ^ ((s & p) ^ a)
 abbrev pub inkOver : Operator → ℕ → Ink
 inkOver x s = record { keep = bitXor (bitAnd s (x .q)) (x .r); flip = bitXor (bitAnd s (x .p)) (x .a) }
 
 -- .. of source bit s and old bit d, at bit j of the word
 unfoldable pub operatorBit : Operator → ℕ → Bool → Bool → Bool
-operatorBit x j s d = differs (d && differs (s && bit (x .q) j) (bit (x .r) j)) (differs (s && bit (x .p) j) (bit (x .a) j))
+operatorBit x j s d =
+    differs (d && differs (s && bit (x .q) j) (bit (x .r) j)) (differs (s && bit (x .p) j) (bit (x .a) j))
 
--- a operator that is called plain is the source itself
+-- an operator that is called plain is the source itself
 pub record SoundOperator (x : Operator) : Type 0 where
   pub passes : x .plain ≡ true → (j : ℕ) → j < 16 → (s d : Bool) → operatorBit x j s d ≡ s
 
--- a operator is an operation under a mask
+-- an operator is an operation under a mask
 pub record OperatorOf (op mask : ℕ) (x : Operator) : Type 0 where
   pub bits : (j : ℕ) → j < 16 → (s d : Bool) → operatorBit x j s d ≡ newBit op (bit mask j) s d
   pub sound : SoundOperator x

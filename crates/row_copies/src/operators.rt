@@ -35,7 +35,7 @@ fn mux_word(m: u16, x: u16, y: u16) -> u16
     x ^ ((x ^ y) & m)
 }
 
-// Whether a operator is the source itself: p all ones, the others 0.
+// Whether an operator is the source itself: p all ones, the others 0.
 fn passes(a: u16, p: u16, q: u16, r: u16) -> bool
     ensures { λ t. ⌜ t ≡ eqb (bitOr (bitOr (bitOr a q) r) (bitXor p 65535)) 0 ⌝ }
 {
@@ -64,7 +64,7 @@ pub fn operator_of(pen: Pen, truth: Truth) -> Operator
     }
 }
 
-// What a operator makes of a word with a source word.
+// What an operator makes of a word with a source word.
 pub fn ink_over(source: u16, operator: Operator) -> Ink
     ensures { λ r. ⌜ r ≡ inkOver operator source ⌝ }
 {

@@ -44,7 +44,8 @@ inkedBit fore back on i v = mixedBit (cond on (fore .keep) (back .keep)) (cond o
 -- what a stencil makes of bit m of the row that begins at byte o
 unfoldable pub stencilled : Stencil → ℕ → ℕ → ℕ → Bool → Bool
 stencilled s cells o m v =
-    inkedBit (s .fore) (s .back) (patternOn cells (s .turn + (across o m - 16 * s .word) / s .bits)) ((m - 8 * o) % 16) v
+    inkedBit (s .fore) (s .back) (patternOn cells (s .turn + (across o m - 16 * s .word) / s .bits))
+    ((m - 8 * o) % 16) v
 
 -- an ink that is the same for each of four words
 pub record Repeated (ink : WideInk) : Type 0 where

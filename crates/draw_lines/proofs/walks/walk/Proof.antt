@@ -6,30 +6,30 @@ use native.Mathlib.Omega.{arith}
 use borrow.Author.Needs.{needs}
 use Rattle.stamps.proofs.TrailLaws.{rotated-whole}
 use Rattle.draw_lines.proofs.TraceLaws.{words-small, Outset, Walked, early, locatable, spot-in, walked-first, walked-length}
-use Rattle.draw_lines.proofs.TraceLaws.{walked-treads, walked-in, walked-next, walked-last}
+use Rattle.draw_lines.proofs.TraceLaws.{walked-fits, walked-in, walked-next, walked-last}
 use Rattle.draw_lines.proofs.walks.walk.Statement.{statement}
 use Rattle.draw_lines.proofs.walks.walk.Tie as tie
 
 abbrev Inv-loop : tie.InvT-loop
-Inv-loop buffer₀ stamps e gait spot₀ pattern₀ i₀ buffer spot pattern i =
-    (o : Outset stamps e gait) → Walked o buffer₀ spot₀ pattern₀ i₀ → Walked o buffer spot pattern i
+Inv-loop buffer₀ stamps e steps spot₀ pattern₀ i₀ buffer spot pattern i =
+    (o : Outset stamps e steps) → Walked o buffer₀ spot₀ pattern₀ i₀ → Walked o buffer spot pattern i
 
 abbrev μ-loop : tie.MeasureT-loop
-μ-loop buffer₀ stamps e gait spot₀ pattern₀ i₀ buffer spot pattern i = e .second - i
+μ-loop buffer₀ stamps e steps spot₀ pattern₀ i₀ buffer spot pattern i = e .second - i
 
 -- the entry, from the place where the steps are known, and that place, from the loop's head
-abbrev entry : tie.After-gait-of Inv-loop μ-loop → tie.Start Inv-loop μ-loop
+abbrev entry : tie.After-line-steps-of Inv-loop μ-loop → tie.Start Inv-loop μ-loop
 entry c = c .before .before .before .before .before
 
-abbrev stepping : tie.At-loop Inv-loop μ-loop → tie.After-gait-of Inv-loop μ-loop
+abbrev stepping : tie.At-loop Inv-loop μ-loop → tie.After-line-steps-of Inv-loop μ-loop
 stepping l = l .before .before .before .before .before .before .before .before .before .before
 
-gait-of-requires : tie.Need-gait-of-requires Inv-loop μ-loop
-gait-of-requires c κs = let w = c .before .before .before .before .pre .0 in (words-small w (omega arith), w .sloped)
+line-steps-of-requires : tie.Need-line-steps-of-requires Inv-loop μ-loop
+line-steps-of-requires c κs = let w = c .before .before .before .before .pre .0 in (words-small w (omega arith), w .sloped)
 
 -- what the walk sets out with
-module _ (c : tie.After-gait-of Inv-loop μ-loop) where
-  abbrev outset : Outset (entry c .args .stamps .now) (entry c .args .e) (c .gait-of .result)
+module _ (c : tie.After-line-steps-of Inv-loop μ-loop) where
+  abbrev outset : Outset (entry c .args .stamps .now) (entry c .args .e) (c .line-steps-of .result)
   outset =
       let s = entry c in
       record {
@@ -43,7 +43,7 @@ module _ (c : tie.After-gait-of Inv-loop μ-loop) where
         small = λ j. c .before .before .before .shared-slice-known .given j .fits;
         bytes = λ j. c .before .before .before .before .slice-known .given j .fits;
         short = omega arith;
-        steps = c .gait-of .ensures;
+        stepsAre = c .line-steps-of .ensures;
       }
 
 spot-of-requires : tie.Need-spot-of-requires Inv-loop μ-loop
@@ -68,7 +68,7 @@ loop-holds c o w = w
 
 -- .. and how far it has come at the loop's head
 module _ (l : tie.At-loop Inv-loop μ-loop) where
-  abbrev start : Outset (entry (stepping l) .args .stamps .now) (entry (stepping l) .args .e) (stepping l .gait-of .result)
+  abbrev start : Outset (entry (stepping l) .args .stamps .now) (entry (stepping l) .args .e) (stepping l .line-steps-of .result)
   start = outset (stepping l)
 
   here : Walked start (l .loop .buffer) (l .loop .spot) (l .loop .pattern) (l .loop .i)
@@ -82,7 +82,7 @@ add-if1 : tie.Need-add-if1 Inv-loop μ-loop
 add-if1 c = let o = start c in record { fits = omega (arith, here c .high, o .walkable .edges .last, o .walkable .sloped .small) }
 
 next-spot-requires : tie.Need-next-spot-requires Inv-loop μ-loop
-next-spot-requires c κs = let l = c .before .before in walked-treads (start l) (here l) (c .if1 .taken)
+next-spot-requires c κs = let l = c .before .before in walked-fits (start l) (here l) (c .if1 .taken)
 
 stamp-requires-2 : tie.Need-stamp-requires-2 Inv-loop μ-loop
 stamp-requires-2 c κs =
@@ -118,7 +118,7 @@ walk-spec =
     (tie.spec
     Inv-loop
     μ-loop
-    gait-of-requires
+    line-steps-of-requires
     spot-of-requires
     sub-rotate-left
     add-rotate-left

@@ -6,8 +6,8 @@ use Rattle.spans.proofs.DrawLaws.{screen-fits, store-fits}
 use Rattle.draw_outlines.proofs.uprights.draw_part.Statement.{statement}
 use Rattle.draw_outlines.proofs.uprights.draw_part.Tie as tie
 
-climb-requires : tie.Need-climb-requires
-climb-requires c κs =
+draw-column-requires : tie.Need-draw-column-requires
+draw-column-requires c κs =
     let i = c .before .before in
     let s = i .before .before .before .before .before .before in
     let r = s .pre .0 in (
@@ -16,15 +16,15 @@ climb-requires c κs =
         small = r .small;
         east = r .east;
         south = r .south;
-        erect = s .pre .1;
+        numbers = s .pre .1;
         edges = s .pre .2;
         some = s .pre .3;
       },
       i .before .stamps-of .ensures,
     )
 
-climb-requires-2 : tie.Need-climb-requires-2
-climb-requires-2 c κs =
+draw-column-requires-2 : tie.Need-draw-column-requires-2
+draw-column-requires-2 c κs =
     let i = c .before .before in
     let s = i .before .before .before .before .before .before in
     let r = s .pre .0 in (
@@ -33,7 +33,7 @@ climb-requires-2 c κs =
         small = r .small;
         east = r .east;
         south = r .south;
-        erect = s .pre .1;
+        numbers = s .pre .1;
         edges = s .pre .2;
         some = s .pre .3;
       },
@@ -44,13 +44,13 @@ returns : tie.Need-returns
 returns c =
     let w = c .before .before in
     let o = w .before .before .before .if1 .taken in
-    (w .climb .ensures ∙ sym (cond-true _ _ o), sym (cond-true _ _ o))
+    (w .draw-column .ensures ∙ sym (cond-true _ _ o), sym (cond-true _ _ o))
 
 returns-2 : tie.Need-returns-2
 returns-2 c =
     let w = c .before .before in
     let o = w .before .before .before .if1 .left in
-    (sym (cond-false _ _ o), w .climb2 .ensures ∙ sym (cond-false _ _ o))
+    (sym (cond-false _ _ o), w .draw-column2 .ensures ∙ sym (cond-false _ _ o))
 
 pub draw-part-spec : {M : Type 1} → statement M
 draw-part-spec =
@@ -58,9 +58,9 @@ draw-part-spec =
     (tie.spec
     (λ c κs. search needs)
     (λ c. search needs)
-    climb-requires
+    draw-column-requires
     (λ c. search needs)
-    climb-requires-2
+    draw-column-requires-2
     (λ c. search needs)
     returns
     (λ c. search needs)

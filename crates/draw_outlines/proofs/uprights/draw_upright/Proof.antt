@@ -8,7 +8,7 @@ use Rattle.canvas.specs.Canvas.{canvas}
 use Rattle.strips.specs.Strokes.{patternOn}
 use Rattle.canvas.proofs.BufferLaws.{picked-painted}
 use Rattle.spans.proofs.DrawLaws.{dots-painted, seen-most}
-use Rattle.draw_outlines.specs.Uprights.{uprightDots, climbed}
+use Rattle.draw_outlines.specs.Uprights.{uprightDots, uprightChanged}
 use Rattle.draw_outlines.proofs.UprightLaws.{upright-none, upright-hits}
 use Rattle.draw_outlines.proofs.uprights.draw_upright.Statement.{statement}
 use Rattle.draw_outlines.proofs.uprights.draw_upright.Tie as tie
@@ -59,7 +59,7 @@ returns-2 c =
     picked-painted (a .t) (uprightDots (a .t .pen) (a .s)) (a .screen .now) (a .store .now) (a .hits) (n .seen-of .result) (counted n) (c .if2 .taken)
 
 returns-3 : tie.Need-returns-3
-unfolding climbed
+unfolding uprightChanged
 returns-3 c =
     let p = c .before .before .before .before in
     let f = p .before .before .before in

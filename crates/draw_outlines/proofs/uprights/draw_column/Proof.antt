@@ -1,35 +1,35 @@
--- `draw_outlines::uprights::climb` meets its contract. The loop's invariant: the visible pixels up to pixel k of them are drawn, and row and pattern
--- are those of pixel k. It holds for whatever target and run the climb set out with.
+-- `draw_outlines::uprights::draw_column` meets its contract. The loop's invariant: the visible pixels up to pixel k of them are drawn, and row and pattern
+-- are those of pixel k. It holds for whatever target and run the draw_column set out with.
 use mathlib.Core.Path.{refl}
 use Prim.Native.Nat.{_-_}
 use native.Mathlib.Omega.{arith}
 use borrow.Author.Needs.{needs}
 use Rattle.stamps.proofs.TrailLaws.{rotated-whole}
-use Rattle.draw_outlines.proofs.UprightLaws.{Outset, Climbed, footed, most, first-in, climbed-first, climbed-length, stepped, climbed-in}
-use Rattle.draw_outlines.proofs.UprightLaws.{climbed-next, climbed-last}
-use Rattle.draw_outlines.proofs.uprights.climb.Statement.{statement}
-use Rattle.draw_outlines.proofs.uprights.climb.Tie as tie
+use Rattle.draw_outlines.proofs.UprightLaws.{Outset, ColumnDrawn, upright-inside, most, first-in, column-first, column-length, stepped, column-in}
+use Rattle.draw_outlines.proofs.UprightLaws.{column-next, column-last}
+use Rattle.draw_outlines.proofs.uprights.draw_column.Statement.{statement}
+use Rattle.draw_outlines.proofs.uprights.draw_column.Tie as tie
 
 abbrev Inv-loop : tie.InvT-loop
-Inv-loop buffer₀ stamps foot n row₀ pattern₀ k₀ buffer row pattern k =
-    (o : Outset stamps foot n) → Climbed o buffer₀ row₀ pattern₀ k₀ → Climbed o buffer row pattern k
+Inv-loop buffer₀ stamps step n row₀ pattern₀ k₀ buffer row pattern k =
+    (o : Outset stamps step n) → ColumnDrawn o buffer₀ row₀ pattern₀ k₀ → ColumnDrawn o buffer row pattern k
 
 abbrev μ-loop : tie.MeasureT-loop
-μ-loop buffer₀ stamps foot n row₀ pattern₀ k₀ buffer row pattern k = n - k
+μ-loop buffer₀ stamps step n row₀ pattern₀ k₀ buffer row pattern k = n - k
 
--- the entry, from the place where the footing is known, and that place, from the loop's head
-abbrev entry : tie.After-footing-of Inv-loop μ-loop → tie.Start Inv-loop μ-loop
+-- the entry, from the place where the step is known, and that place, from the loop's head
+abbrev entry : tie.After-step-of Inv-loop μ-loop → tie.Start Inv-loop μ-loop
 entry c = c .before .before .before .before .before
 
-abbrev standing : tie.At-loop Inv-loop μ-loop → tie.After-footing-of Inv-loop μ-loop
+abbrev standing : tie.At-loop Inv-loop μ-loop → tie.After-step-of Inv-loop μ-loop
 standing l = l .before .before .before .before .before .before .before .before .before
 
-footing-of-requires : tie.Need-footing-of-requires Inv-loop μ-loop
-footing-of-requires c κs = footed (c .before .before .before .before .pre .0) (omega arith)
+step-of-requires : tie.Need-step-of-requires Inv-loop μ-loop
+step-of-requires c κs = upright-inside (c .before .before .before .before .pre .0) (omega arith)
 
--- what the climb sets out with
-module _ (c : tie.After-footing-of Inv-loop μ-loop) where
-  abbrev outset : let a = entry c .args in Outset (a .stamps .now) (c .footing-of .result) (a .e .second - a .e .first)
+-- what the draw_column sets out with
+module _ (c : tie.After-step-of Inv-loop μ-loop) where
+  abbrev outset : let a = entry c .args in Outset (a .stamps .now) (c .step-of .result) (a .e .second - a .e .first)
   outset =
       let s = entry c in
       record {
@@ -37,12 +37,12 @@ module _ (c : tie.After-footing-of Inv-loop μ-loop) where
         s = s .args .s;
         e = s .args .e;
         old = s .args .buffer .now;
-        climbable = s .pre .0;
+        drawable = s .pre .0;
         table = s .pre .1;
         small = λ j. c .before .before .before .shared-slice-known .given j .fits;
         bytes = λ j. c .before .before .before .before .slice-known .given j .fits;
         short = omega arith;
-        footing = c .footing-of .ensures;
+        stepIs = c .step-of .ensures;
         number = refl;
       }
 
@@ -52,7 +52,7 @@ sub-n c = omega (arith, entry (c .before) .pre .0 .some)
 add-rotate-left : tie.Need-add-rotate-left Inv-loop μ-loop
 add-rotate-left c =
     let w = entry (c .before .before .before) .pre .0 in
-    record { fits = omega (arith, w .some, w .edges .last, w .erect .count, w .erect .index) }
+    record { fits = omega (arith, w .some, w .edges .last, w .numbers .count, w .numbers .index) }
 
 stamp-requires : tie.Need-stamp-requires Inv-loop μ-loop
 stamp-requires c κs =
@@ -64,14 +64,14 @@ loop-holds c o w = w
 
 -- .. and how far it has come at the loop's head
 module _ (l : tie.At-loop Inv-loop μ-loop) where
-  abbrev start : let s = standing l in let a = entry s .args in Outset (a .stamps .now) (s .footing-of .result) (a .e .second - a .e .first)
+  abbrev start : let s = standing l in let a = entry s .args in Outset (a .stamps .now) (s .step-of .result) (a .e .second - a .e .first)
   start = outset (standing l)
 
-  here : Climbed start (l .loop .buffer) (l .loop .row) (l .loop .pattern) (l .loop .k)
+  here : ColumnDrawn start (l .loop .buffer) (l .loop .row) (l .loop .pattern) (l .loop .k)
   here =
       let r = l .before .before .before .before .before in
       l .loop .inv start
-      (climbed-first start refl (omega arith) (rotated-whole _ _ (r .rotate-left .result) (r .rotate-left .ensures)) refl
+      (column-first start refl (omega arith) (rotated-whole _ _ (r .rotate-left .result) (r .rotate-left .ensures)) refl
       (l .before .before .before .stamp .ensures))
 
 add-loop : tie.Need-add-loop Inv-loop μ-loop
@@ -91,7 +91,7 @@ stamp-requires-2 : tie.Need-stamp-requires-2 Inv-loop μ-loop
 stamp-requires-2 c κs =
     let i = c .before .before .before .before in
     let l = i .before in
-    (start l .table .length, omega arith, climbed-in (start l) (here l) (omega (arith, i .loop-test .taken)) refl)
+    (start l .table .length, omega arith, column-in (start l) (here l) (omega (arith, i .loop-test .taken)) refl)
 
 add-k : tie.Need-add-k Inv-loop μ-loop
 add-k c =
@@ -105,22 +105,22 @@ loop-again : tie.Need-loop-again Inv-loop μ-loop
 loop-again c o w =
     let n = c .before .before .before .before in
     let i = n .before .before .before in
-    climbed-next o (i .before .loop .inv o w) (omega (arith, i .loop-test .taken)) (n .turned .result) refl (omega arith) (n .turned .ensures) refl
+    column-next o (i .before .loop .inv o w) (omega (arith, i .loop-test .taken)) (n .turned .result) refl (omega arith) (n .turned .ensures) refl
     (c .before .before .stamp2 .ensures)
 
 same-length : tie.Need-same-length Inv-loop μ-loop
-same-length c = let l = c .before in climbed-length (start l) (here l)
+same-length c = let l = c .before in column-length (start l) (here l)
 
 returns : tie.Need-returns Inv-loop μ-loop
-returns c = let l = c .before in climbed-last (start l) (here l) (c .loop-test .left)
+returns c = let l = c .before in column-last (start l) (here l) (c .loop-test .left)
 
-pub climb-spec : {M : Type 1} → statement M
-climb-spec =
+pub draw-column-spec : {M : Type 1} → statement M
+draw-column-spec =
     tie.close
     (tie.spec
     Inv-loop
     μ-loop
-    footing-of-requires
+    step-of-requires
     sub-n
     add-rotate-left
     (λ c κs. search needs)

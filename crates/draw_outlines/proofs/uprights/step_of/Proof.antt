@@ -1,16 +1,16 @@
--- `draw_outlines::uprights::footing_of` meets its contract: the pixel is one of the surface, so that the numbers on the way fit.
+-- `draw_outlines::uprights::step_of` meets its contract: the pixel is one of the surface, so that the numbers on the way fit.
 use mathlib.Core.Path.{refl, ap}
 use native.Mathlib.Omega.{arith}
 use borrow.Author.Needs.{needs}
 use Prim.Native.Nat.{ℕ, _+_, _-_, _*_}
-use Rattle.draw_outlines.proofs.UprightLaws.{FootingSized, footing-sized}
-use Rattle.draw_outlines.proofs.uprights.footing_of.Statement.{statement}
-use Rattle.draw_outlines.proofs.uprights.footing_of.Tie as tie
+use Rattle.draw_outlines.proofs.UprightLaws.{StepSized, step-sized}
+use Rattle.draw_outlines.proofs.uprights.step_of.Statement.{statement}
+use Rattle.draw_outlines.proofs.uprights.step_of.Tie as tie
 
 -- the numbers, once the row is known
-module _ (c : tie.After-level-of) where
-  numbers : let a = c .before .args in FootingSized (a .u) (a .s) (c .level-of .result)
-  numbers = footing-sized (c .before .pre) (c .level-of .ensures)
+module _ (c : tie.After-level-at) where
+  numbers : let a = c .before .args in StepSized (a .u) (a .s) (c .level-at .result)
+  numbers = step-sized (c .before .pre) (c .level-at .ensures)
 
 mul-stride : tie.Need-mul-stride
 mul-stride c = record { fits = omega (arith, numbers (c .before) .stride) }
@@ -35,14 +35,14 @@ returns c =
     let l = c .before .before .before .before .before .before .before .before .before in
     let u = l .before .args .u in
     record {
-      row = ap (λ (y : ℕ). u .base + 2 * (u .words * (u .top + (y - 65536)))) (l .level-of .ensures);
+      row = ap (λ (y : ℕ). u .base + 2 * (u .words * (u .top + (y - 65536)))) (l .level-at .ensures);
       bit = refl;
       down = c .before .either .ensures;
       up = c .either2 .ensures;
     }
 
-pub footing-of-spec : {M : Type 1} → statement M
-footing-of-spec =
+pub step-of-spec : {M : Type 1} → statement M
+step-of-spec =
     tie.close
     (tie.spec
     (λ c κs. search needs)
