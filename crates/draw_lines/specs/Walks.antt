@@ -55,7 +55,7 @@ pub record SpotAt (u : Surface) (course : Course) (a : Axes) (i : ℕ) (s : Spot
   pub bit : s .bit ≡ (u .left + columnOn course a i) * u .bits
   pub rest : s .rest ≡ restOf a i
 
--- ## MoveFits
+-- ## Steps
 
 -- a step in a direction, along x or not, along y or not
 abbrev pub moveOf : Surface → Heading → Bool → Bool → Move

@@ -9,7 +9,8 @@ ghost use Rattle.canvas.specs.Targets.{Ready};
 ghost use Rattle.spans.specs.Spans.{longestSpan};
 ghost use Rattle.stamps.specs.Stamps.{StampsOf};
 ghost use Rattle.draw_outlines.specs.Uprights.{UprightSmall, uprightDots, UprightEdges};
-ghost use Rattle.draw_outlines.specs.Uprights.{uprightLevel, UprightDrawable, UprightInside, UprightStepAt, uprightChanged};
+ghost use Rattle.draw_outlines.specs.Uprights.{uprightLevel, UprightDrawable, UprightInside};
+ghost use Rattle.draw_outlines.specs.Uprights.{UprightStepAt, uprightChanged};
 use canvas::Target;
 use coordinates::Edges;
 use model::Clip;
@@ -109,7 +110,8 @@ fn draw_part(screen: &mut [u8], store: &mut [u8], t: Target, s: Upright, e: Edge
         × (e .first < e .second) ⌝ }
     ensures { λ _. ⌜ (now (screen .exit) ≡ cond (t .area .onscreen)
         (uprightChanged t s (now (screen .entry))) (now (screen .entry)))
-        × (now (store .exit) ≡ cond (t .area .onscreen) (now (store .entry)) (uprightChanged t s (now (store .entry)))) ⌝ }
+        × (now (store .exit) ≡ cond (t .area .onscreen)
+        (now (store .entry)) (uprightChanged t s (now (store .entry)))) ⌝ }
 {
     let area = t.area;
     let u = area.surface;
@@ -129,7 +131,8 @@ pub fn draw_upright(
     s: Upright,
     hits: usize,
 ) -> usize
-    requires { ⌜ Ready t (length (now screen)) (length (now store)) × UprightSmall s × (hits + longestSpan < countEnd) ⌝ }
+    requires { ⌜ Ready t (length (now screen)) (length (now store)) × UprightSmall s
+        × (hits + longestSpan < countEnd) ⌝ }
     ensures { λ r. ⌜ Painted t (uprightDots (t .pen) s)
         (canvas (now (screen .entry)) (now (store .entry)) hits) (canvas (now (screen .exit)) (now (store .exit)) r) ⌝ }
 {
