@@ -138,10 +138,7 @@ module _ {t : Target} {whole rest : Drawing} {most : ℕ} {c₀ : Canvas} {scree
     trap = sym (or-none (d .trap)) ∙ ap (λ (w : Drawing). d .trap || w .trap) (sym e) ∙ u .trap;
   }
 
-  -- a word in reach lies in the store, and reads as it did at entry
-  pub underway-inside : {at size : ℕ} → Reach t (length (c₀ .store)) at size → (j : ℕ) → at ≤ j → j < at + size → j < length store
-  underway-inside r j lo hi = omega (arith, r .inside j lo hi, u .lengths .store)
-
+  -- a word in reach reads as it did at entry
   pub underway-word : {at size : ℕ} → Reach t (length (c₀ .store)) at size → (j : ℕ) → at ≤ j → j + 1 < at + size
       → wordAt store j ≡ wordAt (c₀ .store) j
   underway-word r j lo hi = agree-word (u .agree) r j lo hi

@@ -4,7 +4,7 @@ use mathlib.Core.Path.{_≡_}
 use mathlib.Core.Bool.{true, false, cond}
 use lib.Dec.{eqb}
 use lib.IntN.{ℤ}
-use Prim.Native.Nat.{ℕ, _+_, _-_, _*_, _≤_, _<_}
+use Prim.Native.Nat.{ℕ, _+_, _-_, _*_, _^_, _≤_, _<_}
 use Rattle.model.specs.Coordinates.{Place, negative, offset, place}
 use Rattle.model.specs.Bitmaps.{isPane, placeShift, surfaceOf, Depth}
 use Rattle.model.specs.Scissor.{Current}
@@ -33,6 +33,7 @@ pub record Ready (t : Target) (screen store : ℕ) : Type 0 where
       t .area .surface .words
   pub small : t .area .surface .left + t .area .surface .width ≤ 65536
   pub long : rowsEnd (t .area .surface) ≤ cond (t .area .onscreen) screen store
+  pub near : rowsEnd (t .area .surface) ≤ 2 ^ 32
   pub east : t .clip .xmax < t .area .surface .width
   pub south : t .clip .ymax < t .area .surface .height
   pub table : t .truth ≡ truthOf (t .pen .op)

@@ -21,7 +21,8 @@ use Rattle.canvas.specs.Targets.{Ready}
 use Rattle.coordinates.proofs.SignedLaws.{natAbs-coord}
 use Rattle.canvas.proofs.LoopLaws.{Underway, underway-first, underway-next, underway-last}
 use Rattle.draw_lines.specs.declared.segments.Segment.{Segment}
-use Rattle.draw_lines.specs.Segments.{longestLine, dotsOf}
+use Rattle.traces.specs.Slopes.{longestLine}
+use Rattle.draw_lines.specs.Segments.{dotsOf}
 use Rattle.draw_lines.proofs.SegmentLaws.{segmentDots-few}
 use Rattle.draw_arrays.specs.declared.Triple as code
 use Rattle.draw_arrays.specs.Arrays.{segmentWords, tripleWords}

@@ -11,7 +11,8 @@ ghost use Rattle.model.specs.Lines.{lineDots, pairsAt, polyline, triplesAt, sca
 ghost use Rattle.canvas.specs.Canvas.{canvas, countEnd, Drew, Painted, Reach};
 ghost use Rattle.canvas.specs.Targets.{Ready};
 ghost use Rattle.spans.specs.Spans.{Strung};
-ghost use Rattle.draw_lines.specs.Segments.{longestLine, dotsOf, Traceable};
+ghost use Rattle.traces.specs.Slopes.{longestLine};
+ghost use Rattle.draw_lines.specs.Segments.{dotsOf, Traceable};
 ghost use Rattle.draw_arrays.specs.Arrays.{segmentWords, tripleWords};
 use canvas::Drawn;
 use canvas::Target;

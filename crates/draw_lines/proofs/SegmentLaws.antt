@@ -22,13 +22,15 @@ use Rattle.canvas.specs.declared.Target.{Target}
 use Rattle.canvas.specs.Canvas.{Canvas, painted, paintedAll, Painted}
 use Rattle.canvas.specs.Targets.{placeOn}
 use Rattle.spans.specs.declared.Span.{Span}
-use Rattle.spans.specs.Spans.{spanDot, spanDots}
-use Rattle.draw_lines.specs.Segments.{longestLine, AxesOf, traceDot}
+use Rattle.spans.specs.Spans.{indexEnd, spanDot, spanDots}
+use Rattle.traces.specs.declared.Trace.{Trace}
+use Rattle.traces.specs.Slopes.{longestLine}
+use Rattle.traces.specs.Traces.{TraceSmall, traceDot, traceDots}
+use Rattle.traces.proofs.SlopeLaws.{minorAt-rest}
+use Rattle.draw_lines.specs.declared.segments.Segment.{Segment}
+use Rattle.draw_lines.specs.Segments.{dotsOf, AxesOf, TraceOf}
 use Rattle.canvas.specs.Targets.{courseOf}
 use Rattle.canvas.proofs.CanvasLaws.{listed-length}
-use Rattle.draw_lines.specs.declared.slopes.Axes.{Axes}
-use Rattle.draw_lines.specs.declared.segments.Segment.{Segment}
-use Rattle.draw_lines.proofs.SlopeLaws.{minorAt-rest}
 
 -- ## LINE
 
@@ -44,11 +46,28 @@ module _ (dx dy : ℤ) {a b : ℕ} (p : a ≡ natAbs dx) (q : b ≡ natAbs dy) w
       let g : natAbs dx < natAbs dy = omega arith in
       record { level = sym (lt-leb (natAbs dy) (natAbs dx) g); larger = omega arith; smaller = omega arith; small = l }
 
-pub segmentDots-trace : (pen : Pen) (from : Point) (dx dy : ℤ) (s : Segment) {course : Course} {axes : Axes} → course ≡ courseOf from dx dy
-    → AxesOf dx dy axes
-    → segmentDots pen (place from) dx dy (s .first) (s .index) ≡ listed 0 (axes .larger + 1 - s .first) (traceDot pen course axes s)
-unfolding segmentDots traceDot
-segmentDots-trace pen from dx dy s c a = simp (c, a .level, a .larger, a .smaller, add-one (major dx dy), signAs-directed, traceDot)
+-- a trace from the segment's begin in its direction has the segment's dots
+pub trace-dots : (pen : Pen) (from : Point) (dx dy : ℤ) (r : Trace) → r .heading ≡ courseOf from dx dy .heading → AxesOf dx dy (r .axes)
+    → unbiased (r .x) ≡ coord (from .x) +ℤ pos 0 → unbiased (r .y) ≡ coord (from .y) +ℤ pos 0
+    → traceDots pen r ≡ segmentDots pen (place from) dx dy (r .first) (r .index)
+unfolding segmentDots traceDot traceDots
+trace-dots pen from dx dy r h a ex ey =
+    simp (h, a .level, a .larger, a .smaller, ex ∙ +ℤ-idr (coord (from .x)), ey ∙ +ℤ-idr (coord (from .y)), add-one (major dx dy), signAs-directed, traceDot)
+
+-- .. and its numbers are small
+pub trace-small : {dx dy : ℤ} {r : Trace} → AxesOf dx dy (r .axes) → r .x < 131072 → r .y < 131072 → r .first ≤ 1 → r .index < indexEnd → TraceSmall r
+trace-small {dx} {dy} {r} a x y f i = record {
+  x = x;
+  y = y;
+  sloped = record { order = omega (arith, a .larger, a .smaller); small = a .small };
+  first = omega arith;
+  index = i;
+}
+
+-- .. drawn
+pub trace-painted : (t : Target) (from : Point) (s : Segment) {r : Trace} (c : Canvas) {c′ : Canvas} → TraceOf from s r → Painted t (traceDots (t .pen) r) c c′
+    → Painted t (dotsOf (t .pen) from s) c c′
+trace-painted t from s c o e = e ∙ ap (λ ds. paintedAll t ds c) (o .dots (t .pen))
 
 -- how long a segment is
 pub segmentDots-few : (pen : Pen) (p : Place) (dx dy : ℤ) (first index : ℕ) → natAbs dx ≤ 32768 → natAbs dy ≤ 32768

@@ -1,4 +1,2 @@
--- What the contracts of `draw_lines` cite beside definitions of `model` and `canvas`.
+-- What the contracts of `draw_lines` cite beside definitions of `model`, `canvas` and `traces`.
 pub mod Segments
-pub mod Edges
-pub mod Walks

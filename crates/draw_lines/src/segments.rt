@@ -1,6 +1,5 @@
 // One segment of a line from a position, sloped or level. Every pixel of it takes its pattern index, drawn or not.
 ghost use mathlib.Core.Path.{_≡_};
-ghost use mathlib.Core.Bool.{cond};
 ghost use Prim.Native.Nat.{_+_, _≤_, _<_};
 ghost use lib.IntN.{pos};
 ghost use lib.ListN.{length};
@@ -9,22 +8,17 @@ ghost use Rattle.model.specs.Lines.{lineDots, pixelsFrom, segmentDots};
 ghost use Rattle.canvas.specs.Canvas.{canvas, countEnd, Painted};
 ghost use Rattle.canvas.specs.Targets.{Ready};
 ghost use Rattle.spans.specs.Spans.{Strung};
-ghost use Rattle.draw_lines.specs.Segments.{longestLine, dotsOf, wholeLine, Traceable, LevelSpan, Sloped};
-ghost use Rattle.draw_lines.specs.Edges.{LineEdges};
-ghost use Rattle.draw_lines.specs.Walks.{traced};
-use crate::edges::edges_of;
-use crate::slopes::Axes;
-use crate::slopes::axes_of;
-use crate::walks::walk;
-use canvas::Course;
+ghost use Rattle.traces.specs.Slopes.{longestLine};
+ghost use Rattle.draw_lines.specs.Segments.{dotsOf, wholeLine, Traceable, AxesOf, LevelSpan, TraceOf};
 use canvas::Target;
-use coordinates::Edges;
 use model::Point;
 use spans::Span;
+use traces::Trace;
+use traces::slopes::Axes;
 
-// The length from which a horizontal line is drawn as a span: a shorter one is drawn sooner pixel by pixel than its
-// strips are worked out.
-const SHORTEST_SPAN: usize = 16;
+// The length from which a horizontal line is drawn as a span: a shorter one is traced sooner than its strips are
+// worked out.
+const SHORTEST_SPAN: usize = 64;
 
 // A segment of a line by (dx,dy): the line's pixels from pixel `first` on, which takes pattern index `index`.
 pub struct Segment {
@@ -55,58 +49,45 @@ pub fn pixels_of(s: Segment) -> usize
     axes.larger + 1 - s.first
 }
 
-// The visible pixels of a segment drawn on the bitmap.
-fn draw_part(
-    screen: &mut [u8],
-    store: &mut [u8],
-    t: Target,
-    course: Course,
-    axes: Axes,
-    s: Segment,
-    e: Edges,
-)
-    requires { ⌜ Ready t (length (now screen)) (length (now store)) × Sloped axes × Traceable s
-        × LineEdges (t .clip) course axes (s .first) e × (e .first < e .second) ⌝ }
-    ensures { λ _. ⌜ (now (screen .exit) ≡ cond (t .area .onscreen)
-        (traced t course axes s (now (screen .entry))) (now (screen .entry)))
-        × (now (store .exit) ≡ cond (t .area .onscreen) (now (store .entry))
-        (traced t course axes s (now (store .entry)))) ⌝ }
+// The axes of a line by (dx,dy): x is the major one where the magnitudes are equal.
+pub fn axes_of(dx: u16, dy: u16) -> Axes
+    ensures { λ r. ⌜ AxesOf (coord dx) (coord dy) r ⌝ }
 {
-    let area = t.area;
-    let u = area.surface;
-    let stamps = stamps::stamps_of(t.pen, t.truth, u.bits);
-    if area.onscreen {
-        walk(screen, &stamps, t, course, axes, s, e);
-    } else {
-        walk(store, &stamps, t, course, axes, s, e);
+    let a = coordinates::magnitude(dx);
+    let b = coordinates::magnitude(dy);
+    if b <= a {
+        return Axes {
+            level: true,
+            larger: a,
+            smaller: b,
+        };
+    }
+    Axes {
+        level: false,
+        larger: b,
+        smaller: a,
     }
 }
 
-// A segment from a position: hits and how many of its pixels are visible. Which these are is worked out first.
-fn trace(
-    screen: &mut [u8],
-    store: &mut [u8],
-    t: Target,
-    from: Point,
-    s: Segment,
-    hits: usize,
-) -> usize
-    requires { ⌜ Ready t (length (now screen)) (length (now store)) × Traceable s × (hits + longestLine < countEnd) ⌝ }
-    ensures { λ r. ⌜ Painted t (dotsOf (t .pen) from s) (canvas (now (screen .entry)) (now (store .entry)) hits)
-        (canvas (now (screen .exit)) (now (store .exit)) r) ⌝ }
+// A segment from a position as a trace.
+fn trace_of(from: Point, s: Segment) -> Trace
+    requires { ⌜ Traceable s ⌝ }
+    ensures { λ r. ⌜ TraceOf from s r ⌝ }
 {
     let course = canvas::course_of(from, s.dx, s.dy);
+    let heading = course.heading;
     let axes = axes_of(s.dx, s.dy);
-    let e = edges_of(t.clip, course, axes, s.first);
-    if e.first == e.second {
-        return hits;
+    let index = s.index;
+    let x = coordinates::biased(from.x, false, 0);
+    let y = coordinates::biased(from.y, false, 0);
+    Trace {
+        x,
+        y,
+        heading,
+        axes,
+        first: s.first,
+        index,
     }
-    let seen = hits + spans::seen_of(t.pen, s.index + (e.first - s.first), e.second - e.first);
-    if t.picking {
-        return seen;
-    }
-    draw_part(screen, store, t, course, axes, s, e);
-    seen
 }
 
 // The span of a horizontal segment by `dx` from a position.
@@ -182,5 +163,6 @@ pub fn draw_segment(
             return lone_line(screen, store, t, from, s, hits);
         }
     }
-    trace(screen, store, t, from, s, hits)
+    let trace = trace_of(from, s);
+    traces::draw_trace(screen, store, t, trace, hits)
 }

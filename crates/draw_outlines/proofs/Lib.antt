@@ -1,4 +1,3 @@
 -- Laws of RECT's outline.
 pub mod RectLaws
 pub mod SideLaws
-pub mod UprightLaws

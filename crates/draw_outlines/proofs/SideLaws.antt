@@ -1,4 +1,4 @@
--- Parts of an outline: one after the other they are drawn as one, its level sides are spans, and its upright sides upright runs.
+-- Parts of an outline: one after the other they are drawn as one, its level sides are spans, and its upright sides traces.
 use mathlib.Core.Path.{_≡_, refl, sym, ap, ap₂, _∙_}
 use mathlib.Core.Bool.{Bool, true, false, cond, not, _||_}
 use mathlib.Core.List.{[], append-nil}
@@ -11,6 +11,7 @@ use lib.IntN.{ℤ, pos, negℤ, _+ℤ_, _-ℤ_, +ℤ-assoc, +ℤ-idr, +ℤ-neg�
 use Rattle.model.specs.Ranges.{listed}
 use Rattle.model.specs.Coordinates.{coord, at}
 use Rattle.model.specs.declared.Pen.{Pen}
+use Rattle.model.specs.Lines.{minorAt}
 use Rattle.model.specs.Pixels.{patternSource}
 use Rattle.model.specs.Dots.{Dot, dot}
 use Rattle.coordinates.specs.Offsets.{directed, unbiased}
@@ -19,11 +20,13 @@ use Rattle.canvas.specs.Canvas.{Canvas, painted, paintedAll, Painted}
 use Rattle.canvas.specs.Targets.{placeOn}
 use Rattle.canvas.proofs.CanvasLaws.{paintedAll-append}
 use Rattle.spans.specs.declared.Span.{Span}
-use Rattle.spans.specs.Spans.{Bounded, spanDot, spanDots}
+use Rattle.spans.specs.Spans.{Bounded, indexEnd, spanDot, spanDots}
+use Rattle.traces.specs.declared.Trace.{Trace}
+use Rattle.traces.specs.Slopes.{longestLine}
+use Rattle.traces.specs.Traces.{traceDot, traceDots}
+use Rattle.traces.proofs.SlopeLaws.{minorAt-rest}
 use Rattle.draw_outlines.specs.declared.Outline.{Outline}
-use Rattle.draw_outlines.specs.declared.uprights.Upright.{Upright}
-use Rattle.draw_outlines.specs.Uprights.{uprightDot, uprightDots, UprightSmall}
-use Rattle.draw_outlines.specs.Outlines.{Small, SideOf, UprightOf, outlineDot, outlineLength}
+use Rattle.draw_outlines.specs.Outlines.{Small, SideOf, TraceSideOf, UprightOf, outlineDot, outlineLength}
 use Rattle.draw_outlines.proofs.RectLaws.{listed-part, side1, side2, side3, side4}
 
 -- ## One part after the other
@@ -89,13 +92,44 @@ side-of o i n s b e h = record {
   dots = λ pen. ap (λ (m : ℕ). listed 0 m (spanDot pen s)) e ∙ listed-from (spanDot pen s) (outlineDot pen o) i n (h pen);
 }
 
--- .. and such an upright run
-upright-of : (o : Outline) (i n : ℕ) (s : Upright) → UprightSmall s → s .count ≡ n
-    → ((pen : Pen) (k : ℕ) → k < n → uprightDot pen s k ≡ outlineDot pen o (i + k)) → UprightOf o i n s
-unfolding uprightDots
-upright-of o i n s b e h = record {
-  numbers = b;
-  dots = λ pen. ap (λ (m : ℕ). listed 0 m (uprightDot pen s)) e ∙ listed-from (uprightDot pen s) (outlineDot pen o) i n (h pen);
+-- .. and such a trace
+trace-side-of : (o : Outline) (i n index : ℕ) {x y : ℕ} {up : Bool} {s : Trace} → UprightOf x y up n index s
+    → ((pen : Pen) (k : ℕ) → k < n → dot (at (unbiased x) (unbiased y +ℤ directed up k)) (patternSource pen (index + k)) ≡ outlineDot pen o (i + k))
+    → TraceSideOf o i n s
+unfolding traceDots
+trace-side-of o i n index {s = s} u h = record {
+  small = u .small;
+  dots = λ pen. ap (λ (m : ℕ). listed 0 m (traceDot pen s)) (u .length) ∙ listed-from (traceDot pen s) (outlineDot pen o) i n (λ k l. u .dots pen k ∙ h pen k l);
+}
+
+-- pixels of one column
+upright-column : (n i : ℕ) → minorAt n 0 i ≡ 0
+upright-column n i = sym (minorAt-rest n 0 i 0 n (omega arith) (omega arith) (omega arith))
+
+pub upright-of : (x y n index : ℕ) (up : Bool) → x < 131072 → y < 131072 → 0 < n → n ≤ longestLine → index < indexEnd
+    → UprightOf x y up n index (record {
+      x = x;
+      y = y;
+      heading = record { left = false; up = up };
+      axes = record { level = false; larger = n - 1; smaller = 0 };
+      first = 0;
+      index = index;
+    })
+unfolding traceDot
+upright-of x y n index up hx hy some few hi = record {
+  small = record {
+    x = hx;
+    y = hy;
+    sloped = record { order = omega arith; small = omega arith };
+    first = omega arith;
+    index = hi;
+  };
+  length = omega arith;
+  dots = λ pen k.
+      let z : k + 0 ≡ k = omega arith in
+      let w : k + index ≡ index + k = omega arith in
+      ap₂ dot (ap₂ at (ap (λ (m : ℕ). unbiased x +ℤ pos m) (upright-column (n - 1) (k + 0)) ∙ +ℤ-idr (unbiased x))
+      (ap (λ (m : ℕ). unbiased y +ℤ directed up m) z)) (ap (patternSource pen) w);
 }
 
 module _ (o : Outline) (h : Small o) where
@@ -139,28 +173,27 @@ module _ (o : Outline) (h : Small o) where
         (directed-return startX left (o .a - 1) k (omega arith) ∙ ap (λ (m : ℕ). startX +ℤ directed left m) e)
         ∙ ap (placeOn (o .course)) (side3 (o .a) (o .b) (o .a + o .b + 1 + k) k (omega arith) (omega arith)))))
 
-  module _ (s : Upright) (lx : s .x < 131072) (ly : s .y < 131072) where
+  module _ {x y : ℕ} (s : Trace) where
     -- the second side
-    pub side-right : unbiased (s .x) ≡ startX +ℤ directed left (o .a) → unbiased (s .y) ≡ startY +ℤ directed up 1
-        → s .up ≡ up → s .count ≡ o .b → s .index ≡ o .a + 1 → UprightOf o (o .a + 1) (o .b) s
-    unfolding uprightDot outlineDot
-    side-right ex ey eu ec ei =
-        upright-of o (o .a + 1) (o .b) s (record { x = omega arith; y = omega arith; count = omega (arith, h .b); index = omega (arith, h .a) }) ec
-        (λ pen k l. rw (eu, ei, ex, ey)
+    pub side-right : unbiased x ≡ startX +ℤ directed left (o .a) → unbiased y ≡ startY +ℤ directed up 1
+        → UprightOf x y up (o .b) (o .a + 1) s → TraceSideOf o (o .a + 1) (o .b) s
+    unfolding outlineDot
+    side-right ex ey u =
+        trace-side-of o (o .a + 1) (o .b) (o .a + 1) u
+        (λ pen k l. rw (ex, ey)
         (ap (λ q. dot q (patternSource pen (o .a + 1 + k)))
         (ap (at (startX +ℤ directed left (o .a))) (directed-more startY up 1 k)
         ∙ ap (placeOn (o .course)) (side2 (o .a) (o .b) (o .a + 1 + k) k (omega arith) l))))
 
     -- the last side
-    pub side-left : unbiased (s .x) ≡ startX +ℤ pos 0 → unbiased (s .y) ≡ startY +ℤ directed up (o .b - 1)
-        → s .up ≡ not up → s .count ≡ o .b - 1 → s .index ≡ o .a + o .b + 1 + o .a → UprightOf o (o .a + o .b + 1 + o .a) (o .b - 1) s
-    unfolding uprightDot outlineDot
-    side-left ex ey eu ec ei =
-        upright-of o (o .a + o .b + 1 + o .a) (o .b - 1) s
-        (record { x = omega arith; y = omega arith; count = omega (arith, h .b); index = omega (arith, h .a, h .b) }) ec
+    pub side-left : unbiased x ≡ startX +ℤ pos 0 → unbiased y ≡ startY +ℤ directed up (o .b - 1)
+        → UprightOf x y (not up) (o .b - 1) (o .a + o .b + 1 + o .a) s → TraceSideOf o (o .a + o .b + 1 + o .a) (o .b - 1) s
+    unfolding outlineDot
+    side-left ex ey u =
+        trace-side-of o (o .a + o .b + 1 + o .a) (o .b - 1) (o .a + o .b + 1 + o .a) u
         (λ pen k l.
         let e : o .b - 1 - k ≡ o .b - (1 + k) = omega arith in
-        rw (eu, ei, ex, ey, +ℤ-idr startX)
+        rw (ex, ey, +ℤ-idr startX)
         (ap (λ q. dot q (patternSource pen (o .a + o .b + 1 + o .a + k)))
         (ap₂ at (sym (directed-none startX left))
         (directed-return startY up (o .b - 1) k (omega arith) ∙ ap (λ (m : ℕ). startY +ℤ directed up m) e)
@@ -171,9 +204,9 @@ pub side-painted : (t : Target) (o : Outline) (i n : ℕ) {s : Span} (c : Canvas
     → Painted t (listed i n (outlineDot (t .pen) o)) c c′
 side-painted t o i n c w e = e ∙ ap (λ ds. paintedAll t ds c) (w .dots (t .pen))
 
-pub upright-painted : (t : Target) (o : Outline) (i n : ℕ) {s : Upright} (c : Canvas) {c′ : Canvas} → UprightOf o i n s
-    → Painted t (uprightDots (t .pen) s) c c′ → Painted t (listed i n (outlineDot (t .pen) o)) c c′
-upright-painted t o i n c w e = e ∙ ap (λ ds. paintedAll t ds c) (w .dots (t .pen))
+pub trace-painted : (t : Target) (o : Outline) (i n : ℕ) {s : Trace} (c : Canvas) {c′ : Canvas} → TraceSideOf o i n s
+    → Painted t (traceDots (t .pen) s) c c′ → Painted t (listed i n (outlineDot (t .pen) o)) c c′
+trace-painted t o i n c w e = e ∙ ap (λ ds. paintedAll t ds c) (w .dots (t .pen))
 
 -- ## How many pixels there are
 

@@ -1,3 +1,2 @@
 -- What the contracts of `draw_outlines` cite beside model's definitions.
 pub mod Outlines
-pub mod Uprights

@@ -1,6 +1,4 @@
 // RECT: the outline of a rectangle, each pixel once, one pattern index along all four sides.
-pub mod uprights; // uprights.rt: vertical runs of pixels
-
 ghost use mathlib.Core.Path.{_≡_};
 ghost use Prim.Native.Nat.{_+_, _-_, _≤_, _<_};
 ghost use lib.ListN.{length};
@@ -9,17 +7,20 @@ ghost use Rattle.model.specs.Coordinates.{coord};
 ghost use Rattle.model.specs.Lines.{rectangle};
 ghost use Rattle.canvas.specs.Canvas.{canvas, countEnd, Drew, Painted};
 ghost use Rattle.canvas.specs.Targets.{Ready};
-ghost use Rattle.spans.specs.Spans.{longestSpan};
+ghost use Rattle.spans.specs.Spans.{longestSpan, indexEnd};
 ghost use Rattle.draw_outlines.specs.Outlines.{longestOutline, outlineAt, outlineDot, outlineLength};
-ghost use Rattle.draw_outlines.specs.Outlines.{SideOf, UprightOf, Small};
+ghost use Rattle.traces.specs.Slopes.{longestLine};
+ghost use Rattle.draw_outlines.specs.Outlines.{SideOf, TraceSideOf, UprightOf, Small};
 use canvas::Course;
 use canvas::Drawn;
+use canvas::Heading;
 use canvas::Offset;
 use canvas::Target;
 use model::Point;
 use spans::Span;
-use uprights::Upright;
-use uprights::draw_upright;
+use traces::Trace;
+use traces::draw_trace;
+use traces::slopes::Axes;
 
 // The length from which an outline's level sides are drawn as spans: shorter ones are drawn sooner dot by dot
 // than the strips of both are worked out.
@@ -136,41 +137,50 @@ fn bottom_side(o: Outline) -> Span
     }
 }
 
-// The outline's second side, along y, as an upright run: the corner before it is the first side's.
-fn right_side(o: Outline) -> Upright
-    requires { ⌜ Small o ⌝ }
-    ensures { λ s. ⌜ UprightOf o (o .a + 1) (o .b) s ⌝ }
+// n pixels of a column from (x,y) on, down or up, as a trace.
+fn upright(x: usize, y: usize, up: bool, n: usize, index: usize) -> Trace
+    requires { ⌜ (x < 131072) × (y < 131072) × (0 < n) × (n ≤ longestLine) × (index < indexEnd) ⌝ }
+    ensures { λ r. ⌜ UprightOf x y up n index r ⌝ }
+{
+    let heading = Heading { left: false, up };
+    let axes = Axes {
+        level: false,
+        larger: n - 1,
+        smaller: 0,
+    };
+    Trace {
+        x,
+        y,
+        heading,
+        axes,
+        first: 0,
+        index,
+    }
+}
+
+// The outline's second side, along y, as a trace: the corner before it is the first side's.
+fn right_side(o: Outline) -> Trace
+    requires { ⌜ Small o × (0 < o .b) ⌝ }
+    ensures { λ s. ⌜ TraceSideOf o (o .a + 1) (o .b) s ⌝ }
 {
     let from = o.course.from;
     let heading = o.course.heading;
     let x = coordinates::biased(from.x, heading.left, o.a);
     let y = coordinates::biased(from.y, heading.up, 1);
-    Upright {
-        x,
-        y,
-        up: heading.up,
-        count: o.b,
-        index: o.a + 1,
-    }
+    upright(x, y, heading.up, o.b, o.a + 1)
 }
 
-// The outline's last side, back along y, as an upright run between two corners that are other sides'.
-fn left_side(o: Outline) -> Upright
-    requires { ⌜ Small o × (0 < o .b) ⌝ }
-    ensures { λ s. ⌜ UprightOf o (o .a + o .b + 1 + o .a) (o .b - 1) s ⌝ }
+// The outline's last side, back along y, as a trace between two corners that are other sides'.
+fn left_side(o: Outline) -> Trace
+    requires { ⌜ Small o × (1 < o .b) ⌝ }
+    ensures { λ s. ⌜ TraceSideOf o (o .a + o .b + 1 + o .a) (o .b - 1) s ⌝ }
 {
     let from = o.course.from;
     let heading = o.course.heading;
     let x = coordinates::biased(from.x, false, 0);
     let y = coordinates::biased(from.y, heading.up, o.b - 1);
     let past = o.a + o.b + 1 + o.a;
-    Upright {
-        x,
-        y,
-        up: !heading.up,
-        count: o.b - 1,
-        index: past,
-    }
+    upright(x, y, !heading.up, o.b - 1, past)
 }
 
 // The first side drawn, as a span if it is long: how many of its pixels are visible.
@@ -196,7 +206,7 @@ fn draw_right(screen: &mut [u8], store: &mut [u8], t: Target, o: Outline, hits: 
         return dotted(screen, store, t, o, o.a + 1, o.b, hits);
     }
     let side = right_side(o);
-    draw_upright(screen, store, t, side, hits)
+    draw_trace(screen, store, t, side, hits)
 }
 
 // The third side drawn, as a span if it is long: hits and how many of its pixels are visible.
@@ -223,7 +233,7 @@ fn draw_left(screen: &mut [u8], store: &mut [u8], t: Target, o: Outline, hits: u
         return dotted(screen, store, t, o, o.a + o.b + 1 + o.a, o.b - 1, hits);
     }
     let side = left_side(o);
-    draw_upright(screen, store, t, side, hits)
+    draw_trace(screen, store, t, side, hits)
 }
 
 // The first two sides, to the corner across: how many of their pixels are visible.

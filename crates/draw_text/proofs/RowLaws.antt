@@ -155,6 +155,7 @@ module _ (t : Target) (style : CellStyle) (row : CellRow) (plan : RowPlan) (p : 
           right = r .right;
           small = r .small;
           long = r .long;
+          near = r .near;
           east = r .east;
           south = r .south;
           table = r .table;
@@ -342,6 +343,7 @@ alone {t} a b n r e = record {
   right = r .right;
   small = r .small;
   long = rw (cond-same (t .area .onscreen) n) (rw e at (r .long));
+  near = r .near;
   east = r .east;
   south = r .south;
   table = r .table;

@@ -2,6 +2,7 @@
 use mathlib.Core.Path.{_≡_, refl, _∙_}
 use mathlib.Core.Bool.{false}
 use Prim.Native.Nat.{ℕ, _+_, _-_, _*_, _≤_}
+use native.Mathlib.Nat.{mul-le-mul-left}
 use native.Mathlib.Omega.{arith}
 use lib.ListN.{length, replicate, length-replicate}
 use Rattle.model.specs.declared.Geometry.{Geometry}
@@ -66,11 +67,14 @@ module _ (g : Geometry) (r : Row) (p : Pane) {m n : ℕ} (h : Placed g r m n) wh
       let across : r .left + (g .width - r .left) ≡ g .width = omega (arith, h .right) in
       let down : r .top + (g .height - r .top) ≡ g .height = omega (arith, h .bottom) in
       let w = limits-within g r c l (h .wide) (h .tall) in
+      let d : g .width * g .depth ≤ g .width * 8 = mul-le-mul-left (g .width) (placed-sizes h .1) in
+      let k : g .height * rowWords (g .width) (g .depth) ≤ g .height * 2048 = mul-le-mul-left (g .height) (omega (arith, h .width)) in
       record {
         depth = depth-of (g .depth) (h .depth);
         right = rw across (row-room g);
         small = omega (arith, across, h .width);
         long = rw down (omega (arith, h .long));
+        near = rw down (omega (arith, h .height));
         east = omega (arith, w .0, h .right);
         south = omega (arith, w .1, h .bottom);
         table = refl;
@@ -84,6 +88,7 @@ module _ (g : Geometry) (r : Row) (p : Pane) {m n : ℕ} (h : Placed g r m n) wh
         right = f .right;
         small = omega (arith, ruleBroken-store g r x y b at (l .rule) .right);
         long = omega (arith, f .long, e);
+        near = omega (arith, f .long, e, h .part, h .most);
         east = w .right;
         south = w .bottom;
         table = refl;

@@ -1,3 +1,2 @@
 -- Laws of stamps, which the proofs of `stamps` and of its callers cite.
 pub mod StampLaws
-pub mod TrailLaws

@@ -10,7 +10,8 @@ use lib.ListN.{length}
 use Rattle.model.specs.Lines.{pairsAt, segments, polyline}
 use Rattle.canvas.specs.Canvas.{canvas}
 use Rattle.canvas.proofs.LoopLaws.{Underway, underway-ready, underway-word}
-use Rattle.draw_lines.specs.Segments.{longestLine, Traceable}
+use Rattle.traces.specs.Slopes.{longestLine}
+use Rattle.draw_lines.specs.Segments.{Traceable}
 use Rattle.canvas.proofs.ReachLaws.{reach-room}
 use Rattle.draw_arrays.proofs.ArrayLaws.{underway-segment, items-first, items-last, pairAt, segment-same, segmentsLeft, segments-next}
 use Rattle.draw_arrays.proofs.polyline.Statement.{statement}

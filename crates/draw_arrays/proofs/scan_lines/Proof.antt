@@ -9,7 +9,8 @@ use lib.ListN.{length}
 use Rattle.model.specs.Lines.{triplesAt, scanLines}
 use Rattle.canvas.specs.Canvas.{canvas}
 use Rattle.canvas.proofs.LoopLaws.{Underway, underway-ready, underway-word}
-use Rattle.draw_lines.specs.Segments.{longestLine, wholeLine}
+use Rattle.traces.specs.Slopes.{longestLine}
+use Rattle.draw_lines.specs.Segments.{wholeLine}
 use Rattle.canvas.proofs.ReachLaws.{reach-room}
 use Rattle.draw_arrays.proofs.ArrayLaws.{underway-segment, itemsLeft, items-first, items-last, tripleAt, triple-same, scanLines-next}
 use Rattle.draw_arrays.proofs.scan_lines.Statement.{statement}

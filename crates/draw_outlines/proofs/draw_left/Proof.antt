@@ -1,7 +1,7 @@
--- `draw_outlines::draw_left` meets its contract: dot by dot, or as an upright run.
+-- `draw_outlines::draw_left` meets its contract: dot by dot, or as a trace.
 use Prim.Native.Nat.{_+_, _-_}
 use borrow.Author.Needs.{needs}
-use Rattle.draw_outlines.proofs.SideLaws.{upright-painted}
+use Rattle.draw_outlines.proofs.SideLaws.{trace-painted}
 use Rattle.draw_outlines.proofs.draw_left.Statement.{statement}
 use Rattle.draw_outlines.proofs.draw_left.Tie as tie
 
@@ -10,7 +10,7 @@ returns-2 c =
     let d = c .before .before .before .before in
     let w = d .before .before .before in
     let a = w .before .before .before .before .before .args in
-    upright-painted (a .t) (a .o) (a .o .a + a .o .b + 1 + a .o .a) (a .o .b - 1) _ (w .left-side .ensures) (d .draw-upright .ensures)
+    trace-painted (a .t) (a .o) (a .o .a + a .o .b + 1 + a .o .a) (a .o .b - 1) _ (w .left-side .ensures) (d .draw-trace .ensures)
 
 pub draw-left-spec : {M : Type 1} → statement M
 draw-left-spec =

@@ -1,5 +1,4 @@
--- `draw_outlines::right_side` meets its contract: the upright run from one pixel past the corner has the second side's pixels.
-use mathlib.Core.Path.{refl}
+-- `draw_outlines::right_side` meets its contract: the trace from one pixel past the corner has the second side's pixels.
 use borrow.Author.Needs.{needs}
 use Rattle.draw_outlines.proofs.SideLaws.{side-right}
 use Rattle.draw_outlines.proofs.right_side.Statement.{statement}
@@ -7,11 +6,16 @@ use Rattle.draw_outlines.proofs.right_side.Tie as tie
 
 returns : tie.Need-returns
 returns c =
-    let b = c .before in
+    let b = c .before .before in
     let s = b .before .before .before .before in
-    let x = b .before .biased .ensures in
-    let y = b .biased2 .ensures in
-    side-right (s .args .o) (s .pre) _ (x .1) (y .1) (x .0) (y .0) refl refl refl
+    side-right (s .args .o) (s .pre .0) _ (b .before .biased .ensures .0) (b .biased2 .ensures .0) (c .upright .ensures)
 
 pub right-side-spec : {M : Type 1} → statement M
-right-side-spec = tie.close (tie.spec (λ c κs. search needs) (λ c κs. search needs) (λ c. search needs) returns)
+right-side-spec =
+    tie.close
+    (tie.spec
+    (λ c κs. search needs)
+    (λ c κs. search needs)
+    (λ c. search needs)
+    (λ c κs. search needs)
+    returns)

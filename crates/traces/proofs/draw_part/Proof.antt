@@ -1,0 +1,72 @@
+-- `traces::draw_part` meets its contract: the buffer that holds the bitmap is walked on, the other stays.
+use mathlib.Core.Path.{sym, _∙_}
+use borrow.Author.Needs.{needs}
+use Rattle.model.proofs.Decisions.{cond-true, cond-false}
+use Rattle.spans.proofs.DrawLaws.{screen-fits, store-fits}
+use Rattle.traces.proofs.draw_part.Statement.{statement}
+use Rattle.traces.proofs.draw_part.Tie as tie
+
+stamps-of-requires : tie.Need-stamps-of-requires
+stamps-of-requires c κs = let r = c .before .before .before .before .pre .0 in (r .table, r .depth)
+
+walk-requires : tie.Need-walk-requires
+walk-requires c κs =
+    let i = c .before .before in
+    let s = i .before .before .before .before .before .before in
+    let r = s .pre .0 in (
+      record {
+        fits = screen-fits (s .args .screen .now) (s .args .store .now) r (i .if1 .taken);
+        near = r .near;
+        small = r .small;
+        east = r .east;
+        south = r .south;
+        numbers = s .pre .1;
+        edges = s .pre .2;
+        some = s .pre .3;
+      },
+      i .before .stamps-of .ensures,
+    )
+
+walk-requires-2 : tie.Need-walk-requires-2
+walk-requires-2 c κs =
+    let i = c .before .before in
+    let s = i .before .before .before .before .before .before in
+    let r = s .pre .0 in (
+      record {
+        fits = store-fits (s .args .screen .now) (s .args .store .now) r (i .if1 .left);
+        near = r .near;
+        small = r .small;
+        east = r .east;
+        south = r .south;
+        numbers = s .pre .1;
+        edges = s .pre .2;
+        some = s .pre .3;
+      },
+      i .before .stamps-of .ensures,
+    )
+
+returns : tie.Need-returns
+returns c =
+    let w = c .before .before in
+    let o = w .before .before .before .if1 .taken in
+    (w .walk .ensures ∙ sym (cond-true _ _ o), sym (cond-true _ _ o))
+
+returns-2 : tie.Need-returns-2
+returns-2 c =
+    let w = c .before .before in
+    let o = w .before .before .before .if1 .left in
+    (sym (cond-false _ _ o), w .walk2 .ensures ∙ sym (cond-false _ _ o))
+
+pub draw-part-spec : {M : Type 1} → statement M
+draw-part-spec =
+    tie.close
+    (tie.spec
+    stamps-of-requires
+    (λ c. search needs)
+    walk-requires
+    (λ c. search needs)
+    walk-requires-2
+    (λ c. search needs)
+    returns
+    (λ c. search needs)
+    returns-2)
