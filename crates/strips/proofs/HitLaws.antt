@@ -6,6 +6,7 @@ use Prim.Native.Nat.{ℕ, zero, suc, _+_, _-_, _*_, _/_, _%_, _^_, _≤_, _<_}
 use native.Mathlib.Nat.{add-comm}
 use native.Mathlib.Omega.{arith}
 use native.Mathlib.Numerals.{add-one}
+use lib.Count.{ones, onesIn, ones-cat}
 use Rattle.model.specs.Ranges.{listed}
 use Rattle.model.specs.Words.{bit, digit}
 use Rattle.model.specs.Dots.{Dot, visible, hits}
@@ -13,6 +14,7 @@ use Rattle.model.specs.declared.Clip.{Clip}
 use Rattle.model.specs.declared.Surface.{Surface}
 use Rattle.model.proofs.BitLaws.{digit-le, bit-shr}
 use Rattle.raster.proofs.BitLaws.{bit-mod, digit-odd}
+use Rattle.raster.proofs.Table.{each}
 use Rattle.strips.specs.Strips.{RotatedLeft}
 use Rattle.strips.specs.Strokes.{shown, patternOn}
 use Rattle.strips.proofs.BitParts.{bit-beyond}
@@ -160,7 +162,7 @@ shown-le on (suc n) i = omega (arith, digit-le (on i), shown-le on n (suc i))
 -- ## The 1s of a word
 
 -- by its two bytes
-pub ones-halves : (w : ℕ) → shown (patternOn (w % 256)) 8 8 + shown (patternOn (w / 256)) 8 8 ≡ shown (patternOn w) 0 16
+ones-halves : (w : ℕ) → shown (patternOn (w % 256)) 8 8 + shown (patternOn (w / 256)) 8 8 ≡ shown (patternOn w) 0 16
 ones-halves w =
     let l : shown (patternOn (w % 256)) 8 8 ≡ shown (patternOn w) (0 + 8) 8
     = shown-cong (patternOn (w % 256)) (patternOn w) 8 8 (λ k a b. bit-mod 8 w (15 - k % 16) (omega arith)) in
@@ -172,10 +174,24 @@ ones-halves w =
     = omega (arith, l, h) in
     z ∙ sym (shown-add (patternOn w) 8 8 0)
 
+byte-ones : (x : ℕ) → x < 256 → ones x ≡ shown (patternOn x) 8 8
+unfolding shown bit ones onesIn
+byte-ones x h = each 256 ones (λ x. shown (patternOn x) 8 8) refl x h
+
+-- as the machine counts them
+pub word-ones : (w : ℕ) → w < 65536 → ones w ≡ shown (patternOn w) 0 16
+word-ones w h =
+    let e : w ≡ w / 256 * 2 ^ 8 + w % 256 = omega arith in
+    let l = byte-ones (w % 256) (omega arith) in
+    let m = byte-ones (w / 256) (omega arith) in
+    ap ones e ∙ ones-cat 8 (w / 256) (w % 256) (omega arith)
+    ∙ (let z : ones (w / 256) + ones (w % 256) ≡ shown (patternOn (w % 256)) 8 8 + shown (patternOn (w / 256)) 8 8 = omega (arith, l, m) in z)
+    ∙ ones-halves w
+
 -- the first n of a rotated pattern, shifted to the low end
-pub ones-rest : (pattern index w n : ℕ) → w < 65536 → n < 16 → RotatedLeft pattern index w
+pub ones-first : (pattern index w n : ℕ) → w < 65536 → n ≤ 16 → RotatedLeft pattern index w
     → shown (patternOn (w / 2 ^ (16 - n))) 0 16 ≡ shown (patternOn pattern) index n
-ones-rest pattern index w n h l t =
+ones-first pattern index w n h l t =
     let e : 16 ≡ (16 - n) + n = omega arith in
     let v : ℕ = w / 2 ^ (16 - n) in
     let a : shown (patternOn v) 0 (16 - n) ≡ 0

@@ -1,6 +1,6 @@
 // Patterns: sixteen bits, the first in bit 15. Rotated, reversed, counted, and spread over the bits of pixels.
 ghost use mathlib.Core.Path.{_≡_};
-ghost use Prim.Native.Nat.{_<_, _^_};
+ghost use Prim.Native.Nat.{_≤_, _<_, _^_};
 ghost use Rattle.model.specs.Bitmaps.{Depth};
 ghost use Rattle.strips.specs.Strips.{RotatedLeft, Reversed, Spread, OverOf};
 ghost use Rattle.strips.specs.Strokes.{shown, patternOn};
@@ -26,33 +26,31 @@ pub fn reversed(x: u16) -> u16
     r
 }
 
-// How many bits of a byte are 1.
-fn byte_ones(x: u8) -> usize
-    ensures { λ r. ⌜ r ≡ shown (patternOn x) 8 8 ⌝ }
-{
-    let pairs = x - ((x >> 1) & 85);
-    let fours = (pairs & 51) + ((pairs >> 2) & 51);
-    ((fours + (fours >> 4)) & 15) as usize
-}
-
 // How many bits of a word are 1.
 fn ones(w: u16) -> usize
     ensures { λ r. ⌜ r ≡ shown (patternOn w) 0 16 ⌝ }
 {
-    byte_ones((w % 256) as u8) + byte_ones((w / 256) as u8)
+    u16::count_ones(w) as usize
 }
 
-// How many of n pixels, from a pattern's bit `index` on, have a 1: whole periods of the pattern, and the rest.
+// How many of at most sixteen pixels, from a pattern's bit `index` on, have a 1.
+fn few(pattern: u16, index: usize, n: usize) -> usize
+    requires { ⌜ (index < 16) × (n ≤ 16) ⌝ }
+    ensures { λ r. ⌜ r ≡ shown (patternOn pattern) index n ⌝ }
+{
+    let first = (rotate_left(pattern, index) as u32) >> (16 - n);
+    ones(first as u16)
+}
+
+// .. of n pixels: whole periods of the pattern, and the rest.
 pub fn counted(pattern: u16, index: usize, n: usize) -> usize
     requires { ⌜ (index < 16) × (n < 2 ^ 32) ⌝ }
     ensures { λ r. ⌜ r ≡ shown (patternOn pattern) index n ⌝ }
 {
-    let rest = (rotate_left(pattern, index) as u32) >> (16 - n % 16);
-    let few = ones(rest as u16);
-    if n < 16 {
-        return few;
+    if n <= 16 {
+        return few(pattern, index, n);
     }
-    n / 16 * ones(pattern) + few
+    n / 16 * ones(pattern) + few(pattern, index, n % 16)
 }
 
 // Eight bits of a pattern over pixels of 2 bits: a word.
