@@ -8,7 +8,6 @@ use native.Mathlib.Numerals.{add-one}
 use native.Mathlib.Omega.{arith}
 use native.Mathlib.Decide.{decLt}
 use borrow.Author.Tests.{leb-true}
-use lib.Bits.{bitXor}
 use lib.Dec.{leb, ltb}
 use lib.IntN.{ℤ, pos, negsuc}
 use lib.ListN.{length}
@@ -18,8 +17,6 @@ use Rattle.model.specs.Coordinates.{between, index}
 use Rattle.model.specs.Pixels.{change, changes, patternSource}
 use Rattle.model.specs.Dots.{Dot, dot, something, visible, hits, changeOf, changesOf}
 use Rattle.model.specs.declared.Surface.{Surface}
-use Rattle.model.specs.declared.Pen.{Pen}
-use Rattle.model.specs.declared.Source.{Source}
 use Rattle.model.proofs.CallLaws.{changes-length}
 use Rattle.model.proofs.Decisions.{both-true, and-true, and-false}
 use Rattle.model.proofs.DotLaws.{lies-clip}
@@ -34,13 +31,13 @@ use Rattle.spans.proofs.DrawLaws.{unseen}
 use Rattle.strips.specs.Strokes.{shown, patternOn}
 use Rattle.strips.proofs.SpanLaws.{pattern-hits}
 use Rattle.strips.proofs.FieldBits.{Bytes, changes-bytes}
-use Rattle.strips.proofs.WindowLaws.{Window, plotted, drawnDots, drawn-next, window-drawn}
-use Rattle.stamps.specs.Stamps.{StampsOf, stampByte, keptAt, flippedAt, stamped}
+use Rattle.strips.proofs.WindowLaws.{Window, drawnDots, drawn-next, window-drawn}
+use Rattle.stamps.specs.Stamps.{StampsOf, stampByte, stamped}
 use Rattle.stamps.proofs.StampLaws.{stamped-change, stamp-in}
 use Rattle.traces.specs.declared.Trace.{Trace}
 use Rattle.traces.specs.Traces.{tracePlace, traceDot, traceDots, traceLength}
 use Rattle.traces.specs.Edges.{TraceEdges}
-use Rattle.traces.specs.Walks.{columnOn, rowOn, bitBefore, Located, Locatable, spotAt, stepsOf, spotNo, Walkable, walked, Tracing, traced}
+use Rattle.traces.specs.Walks.{columnOn, rowOn, Located, Locatable, spotAt, stepsOf, spotNo, Walkable, walked, Tracing, traced}
 use Rattle.traces.proofs.SlopeLaws.{rest-below}
 use Rattle.traces.proofs.WalkLaws.{spot-no}
 

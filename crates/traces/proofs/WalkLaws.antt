@@ -19,9 +19,8 @@ use Rattle.strips.proofs.StretchLaws.{true-false}
 use Rattle.traces.specs.declared.Trace.{Trace}
 use Rattle.traces.specs.declared.slopes.Axes.{Axes}
 use Rattle.traces.specs.declared.walks.Spot.{Spot}
-use Rattle.traces.specs.declared.walks.Steps.{Steps}
 use Rattle.traces.specs.Slopes.{minorOf, restOf}
-use Rattle.traces.specs.Traces.{TraceSmall, traceAt, tracePlace}
+use Rattle.traces.specs.Traces.{traceAt}
 use Rattle.traces.specs.Walks.{columnOn, rowOn, bitBefore, Located, Locatable, spotAt, stepOf, stepsOf, nextSpot, spotNo}
 use Rattle.traces.proofs.SlopeLaws.{minor-most, straight-at, straight-rest, diagonal-at, diagonal-rest}
 

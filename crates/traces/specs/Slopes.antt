@@ -1,20 +1,21 @@
--- The minor offset of a line's pixels, by the line's axes.
+-- The minor offset of a line's pixels, by the line's axes: n is the larger magnitude and m the smaller (01, LINE).
 use Prim.Native.Nat.{ℕ, _+_, _*_, _%_, _≤_, _<_}
 use mathlib.Core.Path.{_≡_}
 use Rattle.model.specs.Lines.{minorAt}
+use Rattle.spans.specs.Spans.{longestSpan}
 use Rattle.traces.specs.declared.slopes.Axes.{Axes}
 use Rattle.traces.specs.declared.slopes.Slope.{Slope}
 
--- the most pixels that a line has: an offset's magnitude is at most 32,768
+-- the most pixels that a line has, as a horizontal one has
 abbrev pub longestLine : ℕ
-longestLine = 32769
+longestLine = longestSpan
 
 -- the magnitudes are in order, and small
 pub record Sloped (a : Axes) : Type 0 where
   pub order : a .smaller ≤ a .larger
   pub small : a .larger < longestLine
 
--- the minor offset of pixel i of a line
+-- "the minor floor((2 × i × m + n) / (2 × n))" (01, LINE): the minor offset of pixel i
 abbrev pub minorOf : Axes → ℕ → ℕ
 minorOf a i = minorAt (a .larger) (a .smaller) i
 

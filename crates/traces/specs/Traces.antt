@@ -23,7 +23,7 @@ pub record TraceSmall (s : Trace) : Type 0 where
   pub first : s .first ≤ s .axes .larger + 1
   pub index : s .index < indexEnd
 
--- where pixel i of a line lies from its begin: i along the major axis
+-- "For i = 0 to n the major offset is i" (01, LINE): where pixel i of a line lies from its begin
 abbrev pub traceAt : Axes → ℕ → Offset
 traceAt a i =
     record {
@@ -31,7 +31,7 @@ traceAt a i =
       y = cond (a .level) (minorOf a i) i;
     }
 
--- where pixel i of a trace's line lies
+-- ".. each with its sign": where pixel i of a trace's line lies
 abbrev pub tracePlace : Trace → ℕ → Place
 tracePlace s i =
     at (unbiased (s .x) +ℤ directed (s .heading .left) (traceAt (s .axes) i .x))

@@ -5,8 +5,7 @@ use mathlib.Core.List.{List}
 use Prim.Native.Nat.{ℕ, zero, suc, _+_, _-_, _*_, _%_, _^_, _≤_, _<_}
 use lib.Dec.{ltb}
 use lib.IntN.{pos}
-use lib.ListN.{length}
-use Rattle.model.specs.Words.{bit, digit}
+use Rattle.model.specs.Words.{digit}
 use Rattle.model.specs.Bitmaps.{Fits, Depth}
 use Rattle.model.specs.Coordinates.{index}
 use Rattle.model.specs.Pixels.{changes}
@@ -15,6 +14,7 @@ use Rattle.model.specs.declared.Surface.{Surface}
 use Rattle.bitmaps.specs.Areas.{rowsEnd}
 use Rattle.coordinates.specs.declared.Edges.{Edges}
 use Rattle.canvas.specs.declared.Target.{Target}
+use Rattle.strips.specs.Strokes.{patternOn}
 use Rattle.stamps.specs.Stamps.{stampByte, stamped}
 use Rattle.traces.specs.declared.Trace.{Trace}
 use Rattle.traces.specs.declared.walks.Spot.{Spot}
@@ -108,7 +108,7 @@ abbrev pub solid : ℕ → ℕ
 solid k = 1
 
 abbrev pub patternDigit : ℕ → ℕ → ℕ
-patternDigit pattern k = digit (bit pattern (15 - k % 16))
+patternDigit pattern k = digit (patternOn pattern k)
 
 -- ## A trace drawn
 

@@ -1,8 +1,7 @@
 // The visible pixels of a trace, from one to the next: where a pixel lies is stepped, and nothing is tested but whether
 // the step is straight or diagonal.
 ghost use mathlib.Core.Path.{_≡_};
-ghost use mathlib.Core.Bool.{cond};
-ghost use mathlib.Core.Bool.{true};
+ghost use mathlib.Core.Bool.{true, cond};
 ghost use Prim.Native.Nat.{_+_, _-_, _*_, _≤_, _<_, _^_};
 ghost use lib.ListN.{length};
 ghost use Rattle.stamps.specs.Stamps.{StampsOf};

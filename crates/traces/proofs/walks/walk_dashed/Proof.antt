@@ -1,6 +1,6 @@
 -- `traces::walks::walk_dashed` meets its contract. The loop's invariant: the pixels up to pixel i are stamped, the spot is that of pixel i, and the
 -- pattern is i bits on. It holds for whatever spot, pattern and buffer the walk set out with.
-use mathlib.Core.Path.{refl, ap, _∙_}
+use mathlib.Core.Path.{ap, _∙_}
 use mathlib.Core.List.{List}
 use Prim.Native.Nat.{ℕ, _+_, _-_}
 use native.Mathlib.Omega.{arith}

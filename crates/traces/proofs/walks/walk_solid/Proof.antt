@@ -3,7 +3,6 @@
 use mathlib.Core.List.{List}
 use Prim.Native.Nat.{ℕ, _-_}
 use native.Mathlib.Omega.{arith}
-use borrow.Author.Needs.{needs}
 use Rattle.traces.specs.declared.walks.Spot.{Spot}
 use Rattle.traces.specs.Walks.{solid, spotNo}
 use Rattle.traces.proofs.LoopLaws.{Walking, walking-first, walking-length, walking-next, walking-last, walking-rest, walking-in}
