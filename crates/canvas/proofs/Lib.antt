@@ -4,6 +4,7 @@ pub mod KeptLaws
 pub mod TargetLaws
 pub mod PaintLaws
 pub mod BufferLaws
+pub mod OrderLaws
 pub mod LandingLaws
 pub mod PlanLaws
 pub mod ReachLaws

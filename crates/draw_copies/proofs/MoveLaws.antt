@@ -19,12 +19,13 @@ use Rattle.model.specs.Bitmaps.{placeBit, inside, pixels, Fits}
 use Rattle.model.specs.Pixels.{Change, change}
 use Rattle.model.specs.Dots.{Dot, dot, visible, changeOf}
 use Rattle.model.proofs.Decisions.{cond-ind}
-use Rattle.raster.proofs.ChangeLaws.{change-comm, pixels-kept}
+use Rattle.raster.proofs.ChangeLaws.{pixels-kept}
 use Rattle.bitmaps.specs.declared.areas.Area.{Area}
 use Rattle.canvas.specs.declared.Target.{Target}
-use Rattle.canvas.specs.Canvas.{Canvas, canvas, changedUnless, counted, hit, painted, paintedAll}
+use Rattle.canvas.specs.Canvas.{Canvas, changedUnless, hit, painted, paintedAll}
 use Rattle.canvas.proofs.CanvasLaws.{SameLengths, painted-lengths, paintedAll-none, paintedAll-next}
 use Rattle.canvas.proofs.KeptLaws.{change-byte}
+use Rattle.canvas.proofs.OrderLaws.{painted-swap}
 use Rattle.bitmaps.specs.Areas.{rowsEnd}
 use Rattle.row_copies.specs.declared.operators.Operator.{Operator}
 use Rattle.draw_copies.specs.Steps.{steps}
@@ -58,30 +59,9 @@ painted-buffer P t a d c p q = cond-ind (λ (z : Canvas). P (bufferOf a z)) (vis
 abbrev pub paintedAt : Target → ℕ → ℕ → ℕ → Canvas → Canvas
 paintedAt t x y v c = painted t (dot (at (pos x) (pos y)) (Copied v)) c
 
-changed-swap : (picking here : Bool) (s : Surface) (a b : Change) (c : Canvas)
-    → change s a (change s b (cond here (c .screen) (c .store))) ≡ change s b (change s a (cond here (c .screen) (c .store)))
-    → counted (changedUnless picking here s a (counted (changedUnless picking here s b c)))
-    ≡ counted (changedUnless picking here s b (counted (changedUnless picking here s a c)))
-changed-swap true here s a b c e = refl
-changed-swap false true s a b c e = ap (λ (l : List ℕ). canvas l (c .store) (c .hits + 1 + 1)) e
-changed-swap false false s a b c e = ap (λ (l : List ℕ). canvas (c .screen) l (c .hits + 1 + 1)) e
-
-cond-swap : (v w : Bool) (f g : Canvas → Canvas) (c : Canvas) → f (g c) ≡ g (f c)
-    → cond v (f (cond w (g c) c)) (cond w (g c) c) ≡ cond w (g (cond v (f c) c)) (cond v (f c) c)
-cond-swap true true f g c e = e
-cond-swap true false f g c e = refl
-cond-swap false true f g c e = refl
-cond-swap false false f g c e = refl
-
 paintedAt-swap : (t : Target) (x y v x′ y′ v′ : ℕ) (c : Canvas) → Fits (t .area .surface) (bufferOf (t .area) c) → (x ≢ x′) ⊎ (y ≢ y′)
     → paintedAt t x y v (paintedAt t x′ y′ v′ c) ≡ paintedAt t x′ y′ v′ (paintedAt t x y v c)
-unfolding painted hit
-paintedAt-swap t x y v x′ y′ v′ c f n =
-    let s = t .area .surface in
-    let d = dot (at (pos x) (pos y)) (Copied v) in
-    let e = dot (at (pos x′) (pos y′)) (Copied v′) in
-    cond-swap (visible s (t .clip) d) (visible s (t .clip) e) (hit t d) (hit t e) c
-    (changed-swap (t .picking) (t .area .onscreen) s (changeOf s (t .pen) d) (changeOf s (t .pen) e) c (change-comm s (bufferOf (t .area) c) f _ _ n))
+paintedAt-swap t x y v x′ y′ v′ c f n = painted-swap t (dot (at (pos x) (pos y)) (Copied v)) (dot (at (pos x′) (pos y′)) (Copied v′)) c f (λ a b. n)
 
 -- ## A patch, all values as a reader has them
 

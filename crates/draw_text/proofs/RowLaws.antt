@@ -1,69 +1,56 @@
--- Rows of cells along x are short spans: their dots are the spans', drawn with another pattern and CHAR's transparency. The rows in the clip, drawn
--- one after the other, are all that is seen of a character.
-use mathlib.Core.Path.{_≡_, refl, sym, ap, ap₂, _∙_}
+-- Rows of a grid are short spans: their dots are the spans', drawn with another pattern and CHAR's transparency. The rows in the clip, drawn
+-- one after the other, are all that is seen of a grid.
+use mathlib.Core.Path.{_≡_, refl, sym, ap, ap₂, subst, _∙_}
 use mathlib.Core.Logic.{_⊎_, inl, inr}
 use mathlib.Core.Bool.{Bool, true, false, cond, _&&_}
 use mathlib.Core.List.{List, [], _∷_, _++_, append-assoc}
 use Prim.Native.Nat.{ℕ, zero, suc, _+_, _-_, _*_, _/_, _%_, _^_, _≤_, _<_}
 use native.Mathlib.Omega.{arith}
-use native.Mathlib.Decide.{decLt, ℕ-discrete}
-use native.Mathlib.Nat.{add-assoc, zero-add}
+use native.Mathlib.Decide.{decLt}
+use native.Mathlib.Nat.{add-assoc, zero-add, mul-comm, mul-le-mul-left, mul-le-mul-right}
 use lib.Dec.{leb, ltb}
 use lib.IntN.{ℤ, pos, negsuc, _+ℤ_, +ℤ-idl}
-use lib.ListN.{length, getD, set}
-use lib.Seq.{getD-set-same, getD-set-other}
+use lib.ListN.{length, getD}
 use Rattle.model.specs.Ranges.{listed, joined}
-use Rattle.model.specs.Words.{bit, digit, wordAt}
+use Rattle.model.specs.Words.{bit, digit}
 use Rattle.model.specs.Coordinates.{coord, at, between, index}
 use Rattle.model.specs.Pixels.{Change, penSource, blend, change, changes}
 use Rattle.model.specs.Dots.{Dot, dot, something, lies, visible, hits, keep, changeOf, changesOf}
-use Rattle.model.specs.Glyphs.{heightOf, widthOf}
 use Rattle.model.specs.declared.Clip.{Clip}
 use Rattle.model.specs.declared.Pen.{Pen}
 use Rattle.model.specs.declared.Surface.{Surface}
-use Rattle.model.proofs.Decisions.{split, holds, and-false, and-left, cond-true, cond-false}
+use Rattle.model.proofs.Decisions.{split, holds, and-false, and-left, cond-true, cond-false, cond-ind}
 use Rattle.model.proofs.DotLaws.{lies-clip, listed-cong}
-use Rattle.raster.proofs.BitLaws.{bit-mod, bit-shl}
+use Rattle.model.proofs.PlaceLaws.{depth-bounds}
 use Rattle.coordinates.specs.Offsets.{directed, unbiased, Between}
 use Rattle.coordinates.specs.declared.Edges.{Edges}
-use Rattle.coordinates.proofs.EdgeLaws.{within-true, within-early, within-late, between-holds, unbiased-on}
+use Rattle.coordinates.proofs.EdgeLaws.{within-true, within-early, within-late, between-holds, coord-unbiased, unbiased-on, unbiased-back}
 use Rattle.canvas.specs.declared.Target.{Target}
+use Rattle.canvas.specs.declared.Course.{Course}
 use Rattle.canvas.specs.Canvas.{Canvas, paintedAll}
 use Rattle.canvas.specs.Targets.{Ready}
 use Rattle.canvas.proofs.CanvasLaws.{paintedAll-append, paintedAll-none, joined-last}
 use Rattle.strips.specs.Strokes.{shown, patternOn}
 use Rattle.strips.specs.Stretches.{Stretched}
 use Rattle.strips.proofs.FieldBits.{Bytes}
-use Rattle.stencils.specs.Stencils.{stencilled}
+use Rattle.stencils.specs.Stencils.{RoomFor, stencilled}
+use Rattle.grids.specs.Grids.{onesIn}
+use Rattle.grids.proofs.GridLaws.{onesIn-last, onesIn-most}
 use Rattle.spans.specs.declared.Span.{Span}
 use Rattle.spans.specs.Spans.{spanDot, spanDots, spanChanged, EdgesOf, Met, leftmostOf}
 use Rattle.spans.specs.Through.{StencilFor}
 use Rattle.spans.proofs.EdgesLaws.{row-inside}
-use Rattle.spans.proofs.DrawLaws.{drawn-hits, unseen, ready-fits, PartSized, part-sized, part-room, part-through}
+use Rattle.spans.proofs.DrawLaws.{drawn-hits, unseen, ready-fits, part-through, index-unbiased}
 use Rattle.draw_text.specs.declared.cells.CellStyle.{CellStyle}
 use Rattle.draw_text.specs.declared.cells.CellRow.{CellRow}
+use Rattle.draw_text.specs.declared.cells.Grid.{Grid}
 use Rattle.draw_text.specs.declared.rows.RowPlan.{RowPlan}
-use Rattle.draw_text.specs.Cells.{cellDot, rowDots, cellRow, cells, RowFits}
-use Rattle.draw_text.specs.Rows.{cellTarget, CellsOf, FirstSpan, Planned, bitsRow, rowsFrom, RowsPlanned, MetRow, RowsMet}
+use Rattle.draw_text.specs.Cells.{cellDot, rowDots, gridRow, rowsFrom, gridDots, RowFits, mostCells}
+use Rattle.draw_text.specs.Rows.{cellTarget, FirstSpan, Planned, rowY, RowsPlanned, SomeCells, seenIn, rowStart, RowInside, RowsRoomy}
 
 cond-same : {A : Type 0} (t : Bool) (a : A) → cond t a a ≡ a
 cond-same true a = refl
 cond-same false a = refl
-
--- ## The cells of a row
-
--- x shifted left by k bits, in a word
-shifted-bit : (x k i : ℕ) → k ≤ 16 → i < 16 - k → bit (x * 2 ^ k % 2 ^ 32 % 2 ^ 16) (k + i) ≡ bit x i
-shifted-bit x k i h l =
-    bit-mod 16 (x * 2 ^ k % 2 ^ 32) (k + i) (omega arith) ∙ bit-mod 32 (x * 2 ^ k) (k + i) (omega arith) ∙ bit-shl x k i
-
-pub cells-are : (r : CellRow) → RowFits r → CellsOf r (r .bits * 2 ^ (16 - r .width) % 2 ^ 32 % 2 ^ 16)
-cells-are r f = record {
-  bits = λ i l.
-      let e : 15 - i ≡ 16 - r .width + (r .width - 1 - i) = omega (arith, f .width) in
-      ap (bit (r .bits * 2 ^ (16 - r .width) % 2 ^ 32 % 2 ^ 16)) e
-      ∙ shifted-bit (r .bits) (16 - r .width) (r .width - 1 - i) (omega arith) (omega (arith, f .width));
-}
 
 -- ## Another pattern and transparency
 
@@ -83,74 +70,91 @@ source-same t cells false false = refl
 
 -- ## A row as a span
 
--- the span of the row at y
-abbrev pub rowSpan : RowPlan → ℕ → Span
-rowSpan p y = record { x = p .span .x; y = y; left = p .span .left; count = p .span .count; index = p .span .index }
+-- a coordinate in the clip, kept 65,536 larger
+clip-row : (lo hi : ℕ) (z : ℤ) → between lo hi z ≡ true → unbiased (65536 + index z) ≡ z
+clip-row lo hi (pos k) h = sym (unbiased-on 65536 k) ∙ +ℤ-idl (pos k)
+clip-row lo hi (negsuc k) h = absurd (holds h)
+
+-- the span of row j
+abbrev pub rowSpan : CellStyle → RowPlan → ℕ → Span
+rowSpan style p j =
+    record { x = p .span .x; y = 65536 + index (rowY (style .course) j); left = p .span .left; count = p .span .count; index = p .span .index }
 
 module _ (t : Target) (style : CellStyle) (row : CellRow) (plan : RowPlan) (p : Planned t style (row .width) plan) (fits : RowFits row)
-    (y : ℕ) (ey : unbiased y ≡ coord (style .course .from .y) +ℤ directed (style .course .heading .up) (row .number)) where
-  module _ (cells : ℕ) (cs : CellsOf row cells) where
-    abbrev aim : Target
-    aim = cellTarget t (style .transparent) cells
+    (in-clip : between (t .clip .ymin) (t .clip .ymax) (rowY (style .course) (row .number)) ≡ true) where
+  abbrev aim : Target
+  aim = cellTarget t (style .transparent) (row .cells)
 
-    row-dot : (k : ℕ) → k < row .width → cellDot (t .pen) style row k ≡ spanDot (aim .pen) (rowSpan plan y) k
-    unfolding spanDot
-    row-dot k l =
-        let z : 15 - (plan .span .index + k) % 16 ≡ 15 - k = omega (arith, p .span .index, fits .width) in
-        let s : penSource (t .pen) (style .transparent) (bit (row .bits) (row .width - 1 - k))
-        ≡ penSource (aim .pen) (style .transparent) (bit cells (15 - (plan .span .index + k) % 16))
-        = source-same t cells (style .transparent) (bit (row .bits) (row .width - 1 - k))
-        ∙ ap (penSource (aim .pen) (style .transparent)) (sym (ap (bit cells) z ∙ cs .bits k l)) in
-        rw (p .level, ← (p .span .left), ← (p .span .x), ← ey) (ap (dot (at (unbiased (plan .span .x) +ℤ directed (plan .span .left) k) (unbiased y))) s)
+  abbrev span : Span
+  span = rowSpan style plan (row .number)
 
-    row-dots : rowDots (t .pen) style row ≡ spanDots (aim .pen) (rowSpan plan y)
-    unfolding spanDots
-    row-dots =
-        listed-cong 0 (row .width) _ _ (λ k a b. row-dot k (omega arith))
-        ∙ ap (λ (n : ℕ). listed 0 n (spanDot (aim .pen) (rowSpan plan y))) (sym (p .span .count))
+  row-y : rowY (style .course) (row .number) ≡ unbiased (span .y)
+  row-y = sym (clip-row _ _ (rowY (style .course) (row .number)) in-clip)
 
-    -- its changes are the span's
-    row-changes : (b : List ℕ) → changes (t .area .surface) (changesOf (t .area .surface) (t .clip) (aim .pen) (spanDots (aim .pen) (rowSpan plan y))) b
-        ≡ changes (t .area .surface) (changesOf (t .area .surface) (t .clip) (t .pen) (rowDots (t .pen) style row)) b
-    row-changes b =
-        ap (λ (cs : List Change). changes (t .area .surface) cs b) (pen-changes t (style .transparent) cells (spanDots (aim .pen) (rowSpan plan y)))
-        ∙ ap (λ (ds : List Dot). changes (t .area .surface) (changesOf (t .area .surface) (t .clip) (t .pen) ds) b) (sym row-dots)
+  row-dot : (k : ℕ) → k < row .width → cellDot (t .pen) style row k ≡ spanDot (aim .pen) span k
+  unfolding spanDot
+  row-dot k l =
+      let z : 15 - (plan .span .index + k) % 16 ≡ 15 - k = omega (arith, p .span .index, fits .width) in
+      let s : penSource (t .pen) (style .transparent) (bit (row .cells) (15 - k))
+      ≡ penSource (aim .pen) (style .transparent) (bit (row .cells) (15 - (plan .span .index + k) % 16))
+      = source-same t (row .cells) (style .transparent) (bit (row .cells) (15 - k))
+      ∙ ap (λ (i : ℕ). penSource (aim .pen) (style .transparent) (bit (row .cells) i)) (sym z) in
+      let x : coord (style .course .from .x) +ℤ directed (style .course .heading .left) k ≡ unbiased (plan .span .x) +ℤ directed (plan .span .left) k
+      = ap₂ (λ (z : ℤ) (b : Bool). z +ℤ directed b k) (sym (p .span .x)) (sym (p .span .left)) in
+      λ n. dot (at (x n) (row-y n)) (s n)
 
-    module _ (east : t .clip .xmax < t .area .surface .width) (south : t .clip .ymax < t .area .surface .height)
-        (in-clip : between (t .clip .ymin) (t .clip .ymax) (coord (style .course .from .y) +ℤ directed (style .course .heading .up) (row .number)) ≡ true) where
-      pub row-edges : EdgesOf (t .area .surface) (t .clip) (rowSpan plan y) (plan .edges)
-      row-edges =
-          let h = between-holds (t .clip .ymin) (t .clip .ymax) y (ap (between (t .clip .ymin) (t .clip .ymax)) ey ∙ in-clip) in
-          row-inside (t .area .surface) (t .clip) east south (rowSpan plan y) (h .0) (h .1) (plan .edges) (p .columns)
+  row-dots : rowDots (t .pen) style row ≡ spanDots (aim .pen) span
+  unfolding spanDots
+  row-dots =
+      listed-cong 0 (row .width) _ _ (λ k a b. row-dot k (omega arith))
+      ∙ ap (λ (n : ℕ). listed 0 n (spanDot (aim .pen) span)) (sym (p .span .count))
 
-      -- how many of its cells are visible
-      pub row-hits : (a : Target) → a ≡ aim → (n : ℕ)
-          → n ≡ cond (a .pen .transparent)
-          (shown (patternOn (a .pen .pattern)) (plan .span .index + plan .edges .first) (plan .edges .second - plan .edges .first))
-          (plan .edges .second - plan .edges .first)
-          → n ≡ hits (t .area .surface) (t .clip) (rowDots (t .pen) style row)
-      row-hits a e n s =
-          (rw e at s)
-          ∙ sym (drawn-hits (t .area .surface) (t .clip) (rowSpan plan y) (plan .edges) east south row-edges (p .some) (aim .pen))
-          ∙ ap (hits (t .area .surface) (t .clip)) (sym row-dots)
+  -- its changes are the span's
+  row-changes : (b : List ℕ) → changes (t .area .surface) (changesOf (t .area .surface) (t .clip) (aim .pen) (spanDots (aim .pen) span)) b
+      ≡ changes (t .area .surface) (changesOf (t .area .surface) (t .clip) (t .pen) (rowDots (t .pen) style row)) b
+  row-changes b =
+      ap (λ (cs : List Change). changes (t .area .surface) cs b) (pen-changes t (style .transparent) (row .cells) (spanDots (aim .pen) span))
+      ∙ ap (λ (ds : List Dot). changes (t .area .surface) (changesOf (t .area .surface) (t .clip) (t .pen) ds) b) (sym row-dots)
 
-      -- the stencil of the first row is this one's
-      row-stencil : StencilFor aim (rowSpan plan y) (plan .edges) (plan .stencil)
-      row-stencil =
-          let f = p .stencil in
-          record {
-            fore = f .fore;
-            back = f .back;
-            turn = f .turn;
-            ones = record { bits = f .ones .bits };
-            zeros = record { bits = f .zeros .bits };
-            index = f .index;
-            stencil = f .stencil;
-          }
+  module _ (east : t .clip .xmax < t .area .surface .width) (south : t .clip .ymax < t .area .surface .height) where
+    row-edges : EdgesOf (t .area .surface) (t .clip) span (plan .edges)
+    row-edges =
+        let h = between-holds (t .clip .ymin) (t .clip .ymax) (span .y) (ap (between (t .clip .ymin) (t .clip .ymax)) (sym row-y) ∙ in-clip) in
+        row-inside (t .area .surface) (t .clip) east south span (h .0) (h .1) (plan .edges) (p .columns)
 
-      module _ (b : List ℕ) (r : Ready t (length b) (length b)) where
-        aim-ready : Ready aim (length b) (length b)
-        aim-ready = record {
+    -- how many of its cells are visible
+    pub row-hits : hits (t .area .surface) (t .clip) (rowDots (t .pen) style row)
+        ≡ cond (style .transparent) (shown (patternOn (row .cells)) (plan .edges .first) (plan .edges .second - plan .edges .first))
+        (plan .edges .second - plan .edges .first)
+    row-hits =
+        let z : plan .span .index + plan .edges .first ≡ plan .edges .first = omega (arith, p .span .index) in
+        ap (hits (t .area .surface) (t .clip)) row-dots
+        ∙ drawn-hits (t .area .surface) (t .clip) span (plan .edges) east south row-edges (p .some) (aim .pen)
+        ∙ ap (λ (k : ℕ). cond (style .transparent) (shown (patternOn (row .cells)) k (plan .edges .second - plan .edges .first))
+        (plan .edges .second - plan .edges .first)) z
+
+    -- the stencil of the first row is this one's
+    row-stencil : StencilFor aim span (plan .edges) (plan .stencil)
+    row-stencil =
+        let f = p .stencil in
+        record {
+          fore = f .fore;
+          back = f .back;
+          turn = f .turn;
+          ones = record { bits = f .ones .bits };
+          zeros = record { bits = f .zeros .bits };
+          index = f .index;
+          stencil = f .stencil;
+        }
+
+    -- the row drawn through the stencil
+    pub row-drawn : (b new : List ℕ) → Ready t (length b) (length b) → (met : ℕ) → Met (plan .span .left) (row .cells) met → Bytes b → Bytes new
+        → Stretched (stencilled (plan .stencil) met (rowStart t (style .course) (row .number))) (rowStart t (style .course) (row .number))
+        (16 * plan .stencil .word + plan .stencil .lead) (16 * plan .stencil .word + plan .stencil .end) b new
+        → new ≡ changes (t .area .surface) (changesOf (t .area .surface) (t .clip) (t .pen) (rowDots (t .pen) style row)) b
+    unfolding spanChanged
+    row-drawn b new r met m bo bn q =
+        let ready : Ready aim (length b) (length b) = record {
           depth = r .depth;
           right = r .right;
           small = r .small;
@@ -159,28 +163,11 @@ module _ (t : Target) (style : CellStyle) (row : CellRow) (plan : RowPlan) (p : 
           east = r .east;
           south = r .south;
           table = r .table;
-        }
-
-        -- the numbers of its row fit
-        pub row-sized : PartSized aim (rowSpan plan y) (plan .edges) (length b) (length b) (leftmostOf (rowSpan plan y) (plan .edges))
-        row-sized = part-sized aim (rowSpan plan y) (plan .edges) b b aim-ready row-edges (p .some) _ refl
-
-        pub row-room : t .area .surface .base + 2 * (t .area .surface .words * (t .area .surface .top + (y - 65536)))
-            + 2 * (plan .stencil .word + (plan .stencil .end + 15) / 16) ≤ length b
-        row-room =
-            rw (cond-same (t .area .onscreen) (length b)) at (part-room aim (rowSpan plan y) (plan .edges) b b aim-ready row-edges (p .some) row-stencil)
-
-        -- the row drawn through the stencil
-        pub row-drawn : (new : List ℕ) (met : ℕ) → Met (plan .span .left) cells met → Bytes b → Bytes new
-            → Stretched (stencilled (plan .stencil) met (t .area .surface .base + 2 * (t .area .surface .words * (t .area .surface .top + (y - 65536)))))
-            (t .area .surface .base + 2 * (t .area .surface .words * (t .area .surface .top + (y - 65536))))
-            (16 * plan .stencil .word + plan .stencil .lead) (16 * plan .stencil .word + plan .stencil .end) b new
-            → new ≡ changes (t .area .surface) (changesOf (t .area .surface) (t .clip) (t .pen) (rowDots (t .pen) style row)) b
-        unfolding spanChanged
-        row-drawn new met m bo bn q =
-            part-through aim (rowSpan plan y) (plan .edges) b b aim-ready row-edges (p .some) met row-stencil m
-            (rw (cond-same (t .area .onscreen) b) at (ready-fits b b r)) bo bn q
-            ∙ row-changes b
+        } in
+        let z : index (rowY (style .course) (row .number)) ≡ 65536 + index (rowY (style .course) (row .number)) - 65536 = omega arith in
+        part-through aim span (plan .edges) b b ready row-edges (p .some) met row-stencil m
+        (rw (cond-same (t .area .onscreen) b) at (ready-fits b b r)) bo bn (rw z at q)
+        ∙ row-changes b
 
 -- ## Rows one after the other
 
@@ -246,98 +233,194 @@ rows-cut t f n e a b dark c =
 
 -- ## The rows so far
 
--- a coordinate in the clip, kept 65,536 larger
-clip-row : (lo hi : ℕ) (z : ℤ) → between lo hi z ≡ true → unbiased (65536 + index z) ≡ z
-clip-row lo hi (pos k) h = sym (unbiased-on 65536 k) ∙ +ℤ-idl (pos k)
-clip-row lo hi (negsuc k) h = absurd (holds h)
-
-pub row-counted : (t : Target) (style : CellStyle) (row : CellRow) (plan : RowPlan) → Planned t style (row .width) plan → RowFits row → (cells : ℕ)
-    → CellsOf row cells → t .clip .xmax < t .area .surface .width → t .clip .ymax < t .area .surface .height
-    → between (t .clip .ymin) (t .clip .ymax) (coord (style .course .from .y) +ℤ directed (style .course .heading .up) (row .number)) ≡ true
-    → (a : Target) → a ≡ cellTarget t (style .transparent) cells → (n : ℕ)
-    → n ≡ cond (a .pen .transparent)
-    (shown (patternOn (a .pen .pattern)) (plan .span .index + plan .edges .first) (plan .edges .second - plan .edges .first))
-    (plan .edges .second - plan .edges .first)
-    → n ≡ hits (t .area .surface) (t .clip) (rowDots (t .pen) style row)
-row-counted t style row plan p fits cells cs east south c =
-    row-hits t style row plan p fits
-    (65536 + index (coord (style .course .from .y) +ℤ directed (style .course .heading .up) (row .number))) (clip-row _ _ (coord (style .course .from .y) +ℤ directed (style .course .heading .up) (row .number)) c) cells cs
-    east south c
-
-pub met-none : (p : RowPlan) (i k : ℕ) (bits : ℕ → ℕ) (cells : List ℕ) → k ≤ i → RowsMet p i k bits cells
-met-none p i k bits cells h = record { row = λ j a b. absurd (omega arith) }
-
-pub met-next : (p : RowPlan) (i k : ℕ) (bits : ℕ → ℕ) (cells : List ℕ) (v : ℕ) → RowsMet p i k bits cells → MetRow p (bitsRow (p .span .count) bits k) v
-    → k < length cells → RowsMet p i (k + 1) bits (set cells k v)
-met-next p i k bits cells v m r h = record { row = λ j a b. at j a b (ℕ-discrete j k) }
-  where
-    at : (j : ℕ) → i ≤ j → j < k + 1 → Dec (j ≡ k) → MetRow p (bitsRow (p .span .count) bits j) (getD (set cells k v) j 0)
-    at j a b (yes e) = rw (e, getD-set-same cells k v 0 h) r
-    at j a b (no d) = rw (getD-set-other cells k j v 0 d) (m .row j a (omega arith))
-
-module _ (u : Surface) (clip : Clip) (pen : Pen) (s : CellStyle) (w : ℕ) (bits : ℕ → ℕ) (i k : ℕ) where
-  pub hits-none : k ≡ i → 0 ≡ hits u clip (rowsFrom pen s w bits i (k - i))
-  unfolding hits joined
-  hits-none e = let z : k - i ≡ 0 = omega arith in rw z refl
-
-  pub hits-next : {seen n : ℕ} → seen ≡ hits u clip (rowsFrom pen s w bits i (k - i)) → n ≡ hits u clip (rowDots pen s (bitsRow w bits k)) → i ≤ k
-      → seen + n ≡ hits u clip (rowsFrom pen s w bits i (k + 1 - i))
-  hits-next {seen} {n} a b h =
-      ap₂ (λ (x y : ℕ). x + y) a b ∙ sym (hits-append u clip (rowsFrom pen s w bits i (k - i)) (rowDots pen s (bitsRow w bits k)))
-      ∙ ap (hits u clip) (sym (joined-more i k (λ j. rowDots pen s (bitsRow w bits j)) h))
-
-  pub changes-none : k ≡ i → (b : List ℕ) → b ≡ changes u (changesOf u clip pen (rowsFrom pen s w bits i (k - i))) b
+module _ (u : Surface) (clip : Clip) (pen : Pen) (s : CellStyle) (g : Grid) (i k : ℕ) where
+  pub changes-none : k ≡ i → (b : List ℕ) → b ≡ changes u (changesOf u clip pen (rowsFrom pen s g i (k - i))) b
   unfolding changes changesOf joined
   changes-none e b = let z : k - i ≡ 0 = omega arith in rw z refl
 
-  pub changes-next : (old : List ℕ) {b new : List ℕ} → b ≡ changes u (changesOf u clip pen (rowsFrom pen s w bits i (k - i))) old
-      → new ≡ changes u (changesOf u clip pen (rowDots pen s (bitsRow w bits k))) b → i ≤ k
-      → new ≡ changes u (changesOf u clip pen (rowsFrom pen s w bits i (k + 1 - i))) old
+  pub changes-next : (old : List ℕ) {b new : List ℕ} → b ≡ changes u (changesOf u clip pen (rowsFrom pen s g i (k - i))) old
+      → new ≡ changes u (changesOf u clip pen (rowDots pen s (gridRow g k))) b → i ≤ k
+      → new ≡ changes u (changesOf u clip pen (rowsFrom pen s g i (k + 1 - i))) old
   changes-next old p q h =
-      q ∙ ap (changes u (changesOf u clip pen (rowDots pen s (bitsRow w bits k)))) p
-      ∙ sym (changes-append u clip pen (rowsFrom pen s w bits i (k - i)) (rowDots pen s (bitsRow w bits k)) old)
-      ∙ ap (λ (ds : List Dot). changes u (changesOf u clip pen ds) old) (sym (joined-more i k (λ j. rowDots pen s (bitsRow w bits j)) h))
+      q ∙ ap (changes u (changesOf u clip pen (rowDots pen s (gridRow g k)))) p
+      ∙ sym (changes-append u clip pen (rowsFrom pen s g i (k - i)) (rowDots pen s (gridRow g k)) old)
+      ∙ ap (λ (ds : List Dot). changes u (changesOf u clip pen ds) old) (sym (joined-more i k (λ j. rowDots pen s (gridRow g j)) h))
+
+-- how many cells of n rows, from row i on, are visible
+count-none : (transparent : Bool) (cells : List ℕ) (e m i : ℕ) → 0 ≡ cond transparent (onesIn cells e m i 0) (m * 0)
+unfolding onesIn
+count-none true cells e m i = refl
+count-none false cells e m i = omega arith
+
+count-next : (transparent : Bool) (cells : List ℕ) (e m i n : ℕ)
+    → cond transparent (onesIn cells e m i n) (m * n) + cond transparent (shown (patternOn (getD cells (i + n) 0)) e m) m
+    ≡ cond transparent (onesIn cells e m i (suc n)) (m * suc n)
+count-next true cells e m i n = sym (onesIn-last cells e m n i)
+count-next false cells e m i n = let z : m * n + m ≡ m * suc n = omega arith in z
+
+hits-none : (u : Surface) (clip : Clip) (f : ℕ → List Dot) (i : ℕ) → hits u clip (joined i 0 f) ≡ 0
+unfolding hits joined
+hits-none u clip f i = refl
+
+module _ (t : Target) (style : CellStyle) (plan : RowPlan) (g : Grid) (planned : Planned t style (g .width) plan) (wide : g .width ≤ 16)
+    (east : t .clip .xmax < t .area .surface .width) (south : t .clip .ymax < t .area .surface .height) where
+  rows-hits : (n i : ℕ) → ((j : ℕ) → i ≤ j → j < i + n → (j < 16) × (between (t .clip .ymin) (t .clip .ymax) (rowY (style .course) j) ≡ true))
+      → hits (t .area .surface) (t .clip) (rowsFrom (t .pen) style g i n)
+      ≡ cond (style .transparent) (onesIn (g .cells) (plan .edges .first) (plan .edges .second - plan .edges .first) i n)
+      ((plan .edges .second - plan .edges .first) * n)
+  rows-hits zero i h =
+      hits-none (t .area .surface) (t .clip) (λ j. rowDots (t .pen) style (gridRow g j)) i
+      ∙ count-none (style .transparent) (g .cells) (plan .edges .first) (plan .edges .second - plan .edges .first) i
+  rows-hits (suc n) i h =
+      let here = h (i + n) (omega arith) (omega arith) in
+      ap (hits (t .area .surface) (t .clip)) (joined-last n i (λ j. rowDots (t .pen) style (gridRow g j)))
+      ∙ hits-append (t .area .surface) (t .clip) (rowsFrom (t .pen) style g i n) (rowDots (t .pen) style (gridRow g (i + n)))
+      ∙ ap₂ (λ (a b : ℕ). a + b) (rows-hits n i (λ j a b. h j a (omega arith)))
+      (row-hits t style (gridRow g (i + n)) plan planned (record { number = here .0; width = wide }) (here .1) east south)
+      ∙ count-next (style .transparent) (g .cells) (plan .edges .first) (plan .edges .second - plan .edges .first) i n
+
+  -- what the code counts is how many cells of the rows in the clip are visible
+  pub rows-seen : {f : Edges} → RowsPlanned t style plan f
+      → hits (t .area .surface) (t .clip) (rowsFrom (t .pen) style g (f .first) (f .second - f .first)) ≡ seenIn (style .transparent) (g .cells) (plan .edges) f
+  rows-seen {f} p = rows-hits (f .second - f .first) (f .first) (λ j a b. (omega (arith, p .last), p .inside j a (omega (arith, p .some))))
+
+-- at most all of them
+pub seen-most : (transparent : Bool) (cells : List ℕ) {e f : Edges} → SomeCells e f → seenIn transparent cells e f ≤ mostCells
+seen-most transparent cells {e} {f} s = most transparent
+  where
+    m : ℕ
+    m = e .second - e .first
+
+    n : ℕ
+    n = f .second - f .first
+
+    area : n * m ≤ 16 * 16
+    area =
+        let a : n * m ≤ n * 16 = mul-le-mul-left n (omega (arith, s .width)) in
+        let b : n ≤ 16 = omega (arith, s .height) in
+        omega arith
+
+    most : (b : Bool) → seenIn b cells e f ≤ mostCells
+    most true = omega (arith, onesIn-most cells (e .first) m n (f .first), area)
+    most false = omega (arith, area, mul-comm m n)
 
 -- ## The numbers of a row
 
--- its byte and its words lie in the buffer
-pub record RowSized (t : Target) (plan : RowPlan) (y n : ℕ) : Type 0 where
-  pub north : 65536 ≤ y
-  pub down : t .area .surface .top + (y - 65536) ≤ n + n
-  pub room : t .area .surface .base + 2 * (t .area .surface .words * (t .area .surface .top + (y - 65536)))
-      + 2 * (plan .stencil .word + (plan .stencil .end + 15) / 16) ≤ n
+-- where row j lies, in the bitmap's rows
+row-index : (course : Course) (j : ℕ) → course .from .y < 65536 → j ≤ 32768
+    → index (rowY course j) ≡ cond (course .heading .up) ((course .from .y + 32768) % 65536 + 32768 - j) ((course .from .y + 32768) % 65536 + 32768 + j) - 65536
+row-index course j h l = split (course .heading .up)
+    (λ e. rw e (ap (λ (z : ℤ). index (z +ℤ directed true j)) (coord-unbiased (course .from .y) h)
+    ∙ ap index (unbiased-back ((course .from .y + 32768) % 65536 + 32768) j (omega arith)) ∙ index-unbiased _))
+    (λ e. rw e (ap (λ (z : ℤ). index (z +ℤ directed false j)) (coord-unbiased (course .from .y) h)
+    ∙ ap index (unbiased-on ((course .from .y + 32768) % 65536 + 32768) j) ∙ index-unbiased _))
 
-pub row-numbers : (t : Target) (style : CellStyle) (plan : RowPlan) {f : Edges} → RowsPlanned t style plan f → (j : ℕ) → f .first ≤ j → j < f .second
-    → (y : ℕ) → unbiased y ≡ coord (style .course .from .y) +ℤ directed (style .course .heading .up) j → (b : List ℕ)
-    → Ready t (length b) (length b) → RowSized t plan y (length b)
-row-numbers t style plan p j lo hi y ey b r =
-    let row : CellRow = record { number = j; width = plan .span .count; bits = 0 } in
-    let fits : RowFits row = record { number = omega (arith, p .last); width = p .width } in
-    let z = row-sized t style row plan (p .planned) fits y ey _ (cells-are row fits) (p .east) (r .south) (p .inside j lo hi) b r in
+-- the lowest of some rows is the first where they go up, else the last
+lowest : (up : Bool) (y first second j : ℕ) → first ≤ j → j < second
+    → cond up (y - j) (y + j) - 65536 ≤ cond up (y - cond up first (second - 1)) (y + cond up first (second - 1)) - 65536
+lowest true y first second j a b = omega arith
+lowest false y first second j a b = omega arith
+
+pub lowest-in : (up : Bool) (first second : ℕ) → first < second → (first ≤ cond up first (second - 1)) × (cond up first (second - 1) < second)
+lowest-in true first second h = (omega arith, h)
+lowest-in false first second h = (omega arith, omega arith)
+
+-- room for the lowest row is room for all
+pub rows-roomy : (t : Target) (style : CellStyle) (plan : RowPlan) (f : Edges) (n : ℕ) → style .course .from .y < 65536 → f .second ≤ 16 → f .first < f .second
+    → RoomFor (plan .stencil) (rowStart t (style .course) (cond (style .course .heading .up) (f .first) (f .second - 1))) n → RowsRoomy t style plan f n
+rows-roomy t style plan f n h last some r = record {
+  room = λ j a b.
+      let u = t .area .surface in
+      let k = cond (style .course .heading .up) (f .first) (f .second - 1) in
+      let below : index (rowY (style .course) j) ≤ index (rowY (style .course) k)
+      = rw (
+        row-index (style .course) j h (omega arith),
+        row-index (style .course) k h (cond-ind (λ (i : ℕ). i ≤ 32768) (style .course .heading .up) (f .first)
+            (f .second - 1) (λ e. omega arith) (λ e. omega arith)),
+      )
+      (lowest (style .course .heading .up) ((style .course .from .y + 32768) % 65536 + 32768) (f .first) (f .second) j a b) in
+      let times : u .words * (u .top + index (rowY (style .course) j)) ≤ u .words * (u .top + index (rowY (style .course) k))
+      = mul-le-mul-left (u .words) (omega arith) in
+      omega (arith, r);
+}
+
+-- the rows of a plan lie in the bitmap
+pub row-in : (t : Target) (style : CellStyle) (plan : RowPlan) {f : Edges} {n : ℕ} → Ready t n n → RowsPlanned t style plan f → (j : ℕ) → f .first ≤ j
+    → j < f .second → RowInside t (style .course) j
+row-in t style plan r p j a b =
+    let u = t .area .surface in
+    let one : (u .left + u .width) * 1 ≤ (u .left + u .width) * u .bits = mul-le-mul-left (u .left + u .width) (depth-bounds (r .depth) .0) in
     record {
-      north = z .north;
-      down = z .down;
-      room = row-room t style row plan (p .planned) fits y ey _ (cells-are row fits) (p .east) (r .south) (p .inside j lo hi) b r;
+      few = omega (arith, p .last);
+      inside = p .inside j a b;
+      south = r .south;
+      some = omega (arith, r .right, r .east);
+      near = r .near;
     }
+
+-- .. and so the numbers on the way to a row's first byte are small
+pub record RowSized (t : Target) (y : ℕ) : Type 0 where
+  pub north : 65536 ≤ y
+  pub down : t .area .surface .top + (y - 65536) ≤ 2 ^ 32
+  pub line : t .area .surface .base + 2 * (t .area .surface .words * (t .area .surface .top + (y - 65536))) ≤ 2 ^ 32
+
+pub row-sized : (t : Target) (course : Course) (j : ℕ) → RowInside t course j → (y : ℕ) → unbiased y ≡ rowY course j → RowSized t y
+row-sized t course j i y e =
+    let u = t .area .surface in
+    let h = between-holds (t .clip .ymin) (t .clip .ymax) y (ap (between (t .clip .ymin) (t .clip .ymax)) e ∙ i .inside) in
+    let a : u .words * (u .top + (y - 65536)) ≤ u .words * (u .top + u .height) = mul-le-mul-left (u .words) (omega (arith, h .0, h .1, i .south)) in
+    let b : 1 * (u .top + u .height) ≤ u .words * (u .top + u .height) = mul-le-mul-right (u .top + u .height) (i .some) in
+    let c : (u .top + u .height) * u .words ≡ u .words * (u .top + u .height) = mul-comm (u .top + u .height) (u .words) in
+    record {
+      north = omega (arith, h .0);
+      down = omega (arith, h .0, h .1, i .south, i .near);
+      line = omega (arith, i .near);
+    }
+
+-- .. as is that byte itself
+pub start-small : (t : Target) (course : Course) (j : ℕ) → RowInside t course j → rowStart t course j ≤ 2 ^ 32
+start-small t course j i =
+    let z = row-sized t course j i (65536 + index (rowY course j)) (clip-row _ _ (rowY course j) (i .inside)) in
+    let e : 65536 + index (rowY course j) - 65536 ≡ index (rowY course j) = omega arith in
+    rw e at (z .line)
+
+-- .. and the words of the stencil
+pub stencil-small : (t : Target) (style : CellStyle) (plan : RowPlan) {f : Edges} {n : ℕ} → Ready t n n → RowsPlanned t style plan f
+    → (plan .stencil .word ≤ 2 ^ 24) × (plan .stencil .end ≤ 192)
+stencil-small t style plan r p =
+    let u = t .area .surface in
+    let q = p .planned in
+    let x : leftmostOf (plan .span) (plan .edges) ≤ 131072 + 16
+    = cond-ind (λ (k : ℕ). k - 65536 ≤ 131072 + 16) (plan .span .left) (plan .span .x + 1 - plan .edges .second) (plan .span .x + plan .edges .first)
+    (λ e. omega (arith, q .span .east)) (λ e. omega (arith, q .span .east, q .columns .last, q .some, p .width)) in
+    let w : (u .left + leftmostOf (plan .span) (plan .edges)) * u .bits ≤ (u .left + leftmostOf (plan .span) (plan .edges)) * 8
+    = mul-le-mul-left (u .left + leftmostOf (plan .span) (plan .edges)) (depth-bounds (r .depth) .1) in
+    (omega (arith, q .stencil .stencil .word, w, x, r .small), q .stencil .stencil .usable .end)
+
+pub row-start : (t : Target) (course : Course) (j y : ℕ) → unbiased y ≡ rowY course j
+    → t .area .surface .base + 2 * (t .area .surface .words * (t .area .surface .top + (y - 65536))) ≡ rowStart t course j
+row-start t course j y e =
+    ap (λ (k : ℕ). t .area .surface .base + 2 * (t .area .surface .words * (t .area .surface .top + k))) (sym (index-unbiased y) ∙ ap index e)
 
 -- ## What the rows need
 
 pub rows-planned : {t : Target} {style : CellStyle} {plan : RowPlan} {f : Edges} {height : ℕ} → Planned t style (plan .span .count) plan
     → plan .span .count ≤ 16 → t .clip .xmax < t .area .surface .width
-    → Between (t .clip .ymin) (t .clip .ymax) (unbiased (plan .span .y)) (style .course .heading .up) height f → height ≤ 16 → RowsPlanned t style plan f
-rows-planned {t} {style} {plan} {f} p w east b h = record {
+    → Between (t .clip .ymin) (t .clip .ymax) (unbiased (plan .span .y)) (style .course .heading .up) height f → height ≤ 16 → f .first < f .second
+    → RowsPlanned t style plan f
+rows-planned {t} {style} {plan} {f} p w east b h some = record {
   planned = p;
   width = w;
   east = east;
   inside = λ j lo hi.
       ap (λ (z : ℤ). between (t .clip .ymin) (t .clip .ymax) (z +ℤ directed (style .course .heading .up) j)) (sym (p .span .y))
       ∙ b .exactly j (omega (arith, b .last)) ∙ within-true (f .first) j (f .second) lo hi;
-  ordered = b .ordered;
+  some = some;
   last = omega (arith, b .last);
 }
 
 -- the buffer that holds the bitmap, by itself
-alone : {t : Target} (a b n : ℕ) → Ready t a b → cond (t .area .onscreen) a b ≡ n → Ready t n n
+pub alone : {t : Target} (a b n : ℕ) → Ready t a b → cond (t .area .onscreen) a b ≡ n → Ready t n n
 alone {t} a b n r e = record {
   depth = r .depth;
   right = r .right;
@@ -349,11 +432,9 @@ alone {t} a b n r e = record {
   table = r .table;
 }
 
-pub screen-alone : {t : Target} (a b : ℕ) → Ready t a b → t .area .onscreen ≡ true → Ready t a a
-screen-alone a b r o = alone a b a r (cond-true a b o)
-
-pub store-alone : {t : Target} (a b : ℕ) → Ready t a b → t .area .onscreen ≡ false → Ready t b b
-store-alone a b r o = alone a b b r (cond-false a b o)
+-- .. and so the rows have room there
+pub roomy-here : {t : Target} {style : CellStyle} {plan : RowPlan} {f : Edges} (m n : ℕ) → RowsRoomy t style plan f m → m ≡ n → RowsRoomy t style plan f n
+roomy-here {t} {style} {plan} {f} m n r e = subst (RowsRoomy t style plan f) e r
 
 -- ## Rows with no visible cell
 
@@ -364,25 +445,25 @@ unfolding visible
 dot-dark t d wide high h =
     and-false (something (d .source)) (lies (t .area .surface) (t .clip) (d .place)) (lies-clip (t .area .surface) (t .clip) wide high (d .place) ∙ h)
 
-module _ (t : Target) (style : CellStyle) (level : style .sideways ≡ false) (wide : t .clip .xmax < t .area .surface .width)
-    (high : t .clip .ymax < t .area .surface .height) {s : Span} {width : ℕ} (first : FirstSpan (style .course) width s) where
-  -- no column of the character lies in the clip
-  pub cells-none : (e : Edges) → Between (t .clip .xmin) (t .clip .xmax) (unbiased (s .x)) (s .left) (s .count) e → e .first ≡ e .second
-      → (store : List ℕ) (a head : ℕ) → widthOf head ≡ width → (c : Canvas) → c ≡ paintedAll t (cells (t .pen) style store a head) c
-  cells-none e columns none store a head w c = sym (rows-none t (λ j. rowDots (t .pen) style (cellRow store a (widthOf head) j)) (heightOf head) 0
-      (λ j lo hi d. unseen t (cellDot (t .pen) style (cellRow store a (widthOf head) j)) (widthOf head) 0 d (λ k x y. dark j k (omega arith))) c)
+module _ (t : Target) (style : CellStyle) (wide : t .clip .xmax < t .area .surface .width) (high : t .clip .ymax < t .area .surface .height)
+    (g : Grid) {s : Span} (first : FirstSpan (style .course) (g .width) s) where
+  -- no column of the grid lies in the clip
+  pub grid-beside : (e : Edges) → Between (t .clip .xmin) (t .clip .xmax) (unbiased (s .x)) (s .left) (s .count) e → e .first ≡ e .second
+      → (c : Canvas) → c ≡ paintedAll t (gridDots (t .pen) style g) c
+  grid-beside e columns none c = sym (rows-none t (λ j. rowDots (t .pen) style (gridRow g j)) (g .height) 0
+      (λ j lo hi d. unseen t (cellDot (t .pen) style (gridRow g j)) (g .width) 0 d (λ k x y. dark j k (omega arith))) c)
     where
-      outside : (k : ℕ) → k < width → between (t .clip .xmin) (t .clip .xmax) (unbiased (s .x) +ℤ directed (s .left) k) ≡ false
+      outside : (k : ℕ) → k < g .width → between (t .clip .xmin) (t .clip .xmax) (unbiased (s .x) +ℤ directed (s .left) k) ≡ false
       outside k l = columns .exactly k (omega (arith, first .count)) ∙ elim (decLt k (e .first)) [
         | yes h ↦ within-early (e .first) k (e .second) h
         | no h ↦ within-late (e .first) k (e .second) (omega arith)
       ]
 
-      dark : (j k : ℕ) → k < width → visible (t .area .surface) (t .clip) (cellDot (t .pen) style (cellRow store a (widthOf head) j) k) ≡ false
+      dark : (j k : ℕ) → k < g .width → visible (t .area .surface) (t .clip) (cellDot (t .pen) style (gridRow g j) k) ≡ false
       dark j k l =
-          let d = cellDot (t .pen) style (cellRow store a (widthOf head) j) k in
-          let x : between (t .clip .xmin) (t .clip .xmax) (cellDot (t .pen) style (cellRow store a (widthOf head) j) k .place .x) ≡ false
-          = rw (level, ← (first .left), ← (first .x)) (outside k l) in
+          let d = cellDot (t .pen) style (gridRow g j) k in
+          let x : between (t .clip .xmin) (t .clip .xmax) (cellDot (t .pen) style (gridRow g j) k .place .x) ≡ false
+          = rw (← (first .left), ← (first .x)) (outside k l) in
           dot-dark t d wide high
           (and-left (between (t .clip .xmin) (t .clip .xmax) (d .place .x)) (between (t .clip .ymin) (t .clip .ymax) (d .place .y)) x)
 
@@ -400,16 +481,18 @@ module _ (t : Target) (style : CellStyle) (level : style .sideways ≡ false) (w
       dark k =
           let d = cellDot (t .pen) style row k in
           let y : between (t .clip .ymin) (t .clip .ymax) (cellDot (t .pen) style row k .place .y) ≡ false
-          = rw (level, ← (first .y)) (b .exactly (row .number) l ∙ out o) in
+          = rw (← (first .y)) (b .exactly (row .number) l ∙ out o) in
           dot-dark t d wide high
           (and-false (between (t .clip .xmin) (t .clip .xmax) (d .place .x)) (between (t .clip .ymin) (t .clip .ymax) (d .place .y)) y)
 
-  -- the rows in the clip are all that is seen of the character
-  pub rows-whole : (f : Edges) (store : List ℕ) (a head : ℕ) → s .count ≡ widthOf head
-      → Between (t .clip .ymin) (t .clip .ymax) (unbiased (s .y)) (style .course .heading .up) (heightOf head) f → (c : Canvas)
-      → paintedAll t (rowsFrom (t .pen) style (s .count) (λ j. wordAt store (a + 2 + 2 * j)) (f .first) (f .second - f .first)) c
-      ≡ paintedAll t (cells (t .pen) style store a head) c
-  rows-whole f store a head w b c =
-      rows-cut t (λ j. rowDots (t .pen) style (bitsRow (s .count) (λ j. wordAt store (a + 2 + 2 * j)) j)) (heightOf head) f (b .ordered) (b .last)
-      (λ j l o d. row-hidden f b (bitsRow (s .count) (λ j. wordAt store (a + 2 + 2 * j)) j) l o d) c
-      ∙ ap (λ (n : ℕ). paintedAll t (joined 0 (heightOf head) (λ j. rowDots (t .pen) style (cellRow store a n j))) c) w
+  module _ (f : Edges) (b : Between (t .clip .ymin) (t .clip .ymax) (unbiased (s .y)) (style .course .heading .up) (g .height) f) (c : Canvas) where
+    -- the rows in the clip are all that is seen of the grid
+    pub rows-whole : paintedAll t (rowsFrom (t .pen) style g (f .first) (f .second - f .first)) c ≡ paintedAll t (gridDots (t .pen) style g) c
+    rows-whole = rows-cut t (λ j. rowDots (t .pen) style (gridRow g j)) (g .height) f (b .ordered) (b .last) (λ j l o d. row-hidden f b (gridRow g j) l o d) c
+
+    -- none of them does
+    pub grid-below : f .first ≡ f .second → c ≡ paintedAll t (gridDots (t .pen) style g) c
+    unfolding joined
+    grid-below e =
+        let z : f .second - f .first ≡ 0 = omega arith in
+        sym (paintedAll-none t c) ∙ ap (λ (n : ℕ). paintedAll t (rowsFrom (t .pen) style g (f .first) n) c) (sym z) ∙ rows-whole

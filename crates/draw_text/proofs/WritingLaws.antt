@@ -22,9 +22,9 @@ use Rattle.canvas.specs.Canvas.{canvas, Drew}
 use Rattle.canvas.proofs.KeptLaws.{Agree, agree-word}
 use Rattle.canvas.proofs.LoopLaws.{Underway, underway-first, underway-ready, underway-next, underway-last}
 use Rattle.draw_text.specs.declared.text.Characters.{Characters}
-use Rattle.draw_text.specs.Cells.{styleOf, rowDots, mostCells, DescriptorIn, GlyphReady}
+use Rattle.draw_text.specs.Cells.{styleOf, storedRow, mostCells, DescriptorIn, GlyphReady}
 use Rattle.draw_text.specs.Writing.{Writable, characterDrawing}
-use Rattle.draw_text.proofs.CellLaws.{cells-glyphDots, firstRows-length}
+use Rattle.draw_text.proofs.CellLaws.{cells-glyphDots, cells-length}
 use Rattle.draw_text.proofs.LegibleLaws.{descriptor-kept}
 
 -- ## A character
@@ -35,7 +35,7 @@ glyphDots-length pen transparent rotation store a p =
     let style = styleOf rotation p transparent in
     omega (
       arith,
-      firstRows-length pen style store a (wordAt store a) (heightOf (wordAt store a)),
+      cells-length pen style store a (wordAt store a),
       ap length (cells-glyphDots rotation p transparent pen store a refl refl),
     )
 
@@ -50,7 +50,7 @@ module _ {t : Target} {old new : List ℕ} (u : Agree t old new) {a : ℕ} (r : 
       let width = widthOf (wordAt old a) in
       sym (cells-glyphDots rotation p transparent pen new a refl (sym head-kept))
       ∙ joined-cong 0 (heightOf (wordAt old a)) _ _
-      (λ j lo hi. ap (λ (b : ℕ). rowDots pen (styleOf rotation p transparent) (record { number = j; width = width; bits = b }))
+      (λ j lo hi. ap (λ (b : ℕ). storedRow pen (styleOf rotation p transparent) width b j)
       (agree-word u r (a + 2 + 2 * j) (omega arith) (omega arith)))
       ∙ cells-glyphDots rotation p transparent pen old a refl refl
 

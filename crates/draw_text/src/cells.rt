@@ -1,5 +1,4 @@
-// The cells of a character: as dots where its rows lie along y, else row by row (rows.rt).
-use crate::rows::glyph_by_rows;
+// The cells of a character: a grid of rows that lie along x, whatever the rotation; and a grid drawn dot by dot.
 use canvas::Course;
 use canvas::Heading;
 use canvas::Offset;
@@ -8,11 +7,26 @@ use fault_text::height_of;
 use fault_text::width_of;
 use model::Point;
 ghost use mathlib.Core.Path.{_≡_};
-ghost use Prim.Native.Nat.{_+_, _<_};
+ghost use mathlib.Core.Bool.{cond};
+ghost use Prim.Native.Nat.{_+_, _*_, _≤_, _<_};
 ghost use lib.ListN.{length};
+ghost use Rattle.model.specs.Glyphs.{heightOf};
 ghost use Rattle.canvas.specs.Canvas.{canvas, countEnd, Painted};
 ghost use Rattle.canvas.specs.Targets.{Ready};
-ghost use Rattle.draw_text.specs.Cells.{styleOf, mostColumns, RowFits, rowDots, cells, GlyphReady};
+ghost use Rattle.draw_text.specs.Cells.{
+  styleOf,
+  mostColumns,
+  mostRows,
+  mostCells,
+  CellsOf,
+  StoredCells,
+  TurnedIf,
+  GridOf,
+  GridFits,
+  RowFits,
+  rowDots,
+  gridDots,
+};
 
 // How the cells of a character are drawn: the course that they take from the position, whether a row of them
 // goes along y, and whether bits of 0 are left out.
@@ -39,15 +53,75 @@ pub fn style_of(rotation: u8, from: Point, transparent: bool) -> CellStyle
     }
 }
 
-// A row of cells: its number from the top, how many there are, and their bits, the leftmost the highest.
+// Rows of cells along x, one below or above the other: a word each, the first cell in bit 15; how many cells a row
+// has, and how many rows there are.
+pub struct Grid {
+    pub cells: [u16; 16],
+    pub width: usize,
+    pub height: usize,
+}
+
+// A row of a grid: its number, how many cells it has, and these.
 pub struct CellRow {
     pub number: usize,
     pub width: usize,
-    pub bits: u16,
+    pub cells: u16,
 }
 
-// A row of a character: hits, and one more for each visible cell.
-fn glyph_row(
+// ---- The grid of a character
+
+// The cells of a descriptor's row, the leftmost in bit 15.
+fn cells_of(bits: u16, width: usize) -> u16
+    requires { ⌜ width ≤ mostColumns ⌝ }
+    ensures { λ r. ⌜ CellsOf bits width r ⌝ }
+{
+    (((bits as u32) << (16 - width)) % 65536) as u16
+}
+
+// The rows of the character whose descriptor stands at an address.
+fn stored_cells(store: &[u8], at: usize, width: usize, height: usize) -> [u16; 16]
+    requires { ⌜ (width ≤ mostColumns) × (height ≤ mostRows) × (at + 2 + 2 * height ≤ length (now store)) ⌝ }
+    ensures { λ r. ⌜ StoredCells (now (store .entry)) at width height r ⌝ }
+{
+    let mut cells = [0u16; 16];
+    let mut number = 0;
+    while number < height {
+        let bits = words::word(store, at + 2 + 2 * number);
+        cells[number] = cells_of(bits, width);
+        number += 1;
+    }
+    cells
+}
+
+// Rows and columns exchanged where rows go along y.
+fn turned_if(sideways: bool, cells: [u16; 16]) -> [u16; 16]
+    ensures { λ r. ⌜ TurnedIf sideways cells r ⌝ }
+{
+    if sideways {
+        return grids::transposed(cells);
+    }
+    cells
+}
+
+// The grid of the character whose descriptor stands at an address and begins with the word `head`.
+pub fn grid_of(store: &[u8], sideways: bool, at: usize, head: u16) -> Grid
+    requires { ⌜ at + 2 + 2 * heightOf head ≤ length (now store) ⌝ }
+    ensures { λ g. ⌜ GridOf (now (store .entry)) sideways at head g ⌝ }
+{
+    let width = width_of(head);
+    let height = height_of(head);
+    let cells = turned_if(sideways, stored_cells(store, at, width, height));
+    Grid {
+        cells,
+        width: words::either(sideways, height, width),
+        height: words::either(sideways, width, height),
+    }
+}
+
+// ---- A grid, dot by dot
+
+// A row: hits, and one more for each visible cell.
+fn row_by_dots(
     screen: &mut [u8],
     store: &mut [u8],
     t: Target,
@@ -65,65 +139,42 @@ fn glyph_row(
     let mut seen = hits;
     let mut i = 0;
     while i < width {
-        let on = words::bit_of(row.bits, width - 1 - i);
+        let on = words::bit_of(row.cells, 15 - i);
         let source = canvas::pen_source(pen, style.transparent, on);
-        let x = words::either(style.sideways, row.number, i);
-        let y = words::either(style.sideways, i, row.number);
-        let o = Offset { x, y };
+        let o = Offset {
+            x: i,
+            y: row.number,
+        };
         seen = canvas::draw_dot(screen, store, t, course, o, source, seen);
         i += 1;
     }
     seen
 }
 
-// A character, dot by dot.
-fn glyph_by_dots(
+// All rows.
+pub fn grid_by_dots(
     screen: &mut [u8],
     store: &mut [u8],
     t: Target,
     style: CellStyle,
-    at: usize,
-    head: u16,
+    g: Grid,
     hits: usize,
 ) -> usize
-    requires { ⌜ GlyphReady t (length (now screen)) (now store) at head hits ⌝ }
-    ensures { λ r. ⌜ Painted t (cells (t .pen) style (now (store .entry)) at head)
+    requires { ⌜ Ready t (length (now screen)) (length (now store)) × GridFits g × (hits + mostCells < countEnd) ⌝ }
+    ensures { λ r. ⌜ Painted t (gridDots (t .pen) style g)
         (canvas (now (screen .entry)) (now (store .entry)) hits) (canvas (now (screen .exit)) (now (store .exit)) r) ⌝ }
 {
-    let width = width_of(head);
-    let height = height_of(head);
+    let cells = g.cells;
     let mut seen = hits;
     let mut number = 0;
-    while number < height {
-        let bits = words::word(store, at + 2 + 2 * number);
+    while number < g.height {
         let row = CellRow {
             number,
-            width,
-            bits,
+            width: g.width,
+            cells: cells[number],
         };
-        seen = glyph_row(screen, store, t, style, row, seen);
+        seen = row_by_dots(screen, store, t, style, row, seen);
         number += 1;
     }
     seen
-}
-
-// The character whose descriptor stands at an address and begins with the word `head`: hits, and one more for
-// each visible cell.
-pub fn glyph(
-    screen: &mut [u8],
-    store: &mut [u8],
-    t: Target,
-    style: CellStyle,
-    at: usize,
-    head: u16,
-    hits: usize,
-) -> usize
-    requires { ⌜ GlyphReady t (length (now screen)) (now store) at head hits ⌝ }
-    ensures { λ r. ⌜ Painted t (cells (t .pen) style (now (store .entry)) at head)
-        (canvas (now (screen .entry)) (now (store .entry)) hits) (canvas (now (screen .exit)) (now (store .exit)) r) ⌝ }
-{
-    if style.sideways {
-        return glyph_by_dots(screen, store, t, style, at, head, hits);
-    }
-    glyph_by_rows(screen, store, t, style, at, head, hits)
 }

@@ -1,7 +1,8 @@
 // A string, character by character: each drawn at the position, which then moves along the path.
-use crate::cells::glyph;
+use crate::cells::grid_of;
 use crate::cells::style_of;
 use crate::path::pass;
+use crate::rows::draw_grid;
 use canvas::Drawn;
 use canvas::Target;
 use fault_text::descriptor_of;
@@ -42,7 +43,8 @@ fn character(
     let head = words::word(store, at);
     let from = d.position;
     let style = style_of(text.rotation, from, transparent);
-    let hits = glyph(screen, store, t, style, at, head, d.hits);
+    let g = grid_of(store, style.sideways, at, head);
+    let hits = draw_grid(screen, store, t, style, g, d.hits);
     let position = pass(text, head, from);
     let trap = d.trap | words::bit_of(head, 15);
     Drawn {

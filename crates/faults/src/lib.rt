@@ -43,7 +43,7 @@ ghost use Rattle.model.specs.Faults.{
 };
 ghost use Rattle.bitmaps.specs.Areas.{Active};
 ghost use Rattle.fault_text.specs.Reading.{StringAddressed};
-ghost use Rattle.faults.specs.Checking.{clipOf, Checkable};
+ghost use Rattle.faults.specs.Checking.{clipOf, Checkable, MayFault};
 
 // "DEF_BITMAP: 22 rule broken", and so for BIT_BLT_M's source.
 const FAULT_BITMAP: u8 = 22;
@@ -201,6 +201,29 @@ fn copy_fault(f: Frame, active: Bitmap, source: Bitmap, b: Block) -> u8
 }
 
 // ---- All commands
+
+// Whether a command may be faulty. Where not, its fault needs no looking for.
+pub fn may_fault(c: Command) -> bool
+    ensures { λ b. ⌜ MayFault c b ⌝ }
+{
+    match c {
+        Command::Link { address: _ }
+        | Command::Nop
+        | Command::DefTexture {
+            pattern: _,
+            transparent: _,
+        }
+        | Command::DefColors { fore: _, back: _ }
+        | Command::DefLogicalOp { mask: _, code: _ }
+        | Command::EnterPick
+        | Command::ExitPick
+        | Command::DefSpace { spacing: _ }
+        | Command::DefCharOrient { orientation: _ }
+        | Command::AbsMov { x: _, y: _ }
+        | Command::RelMov { dx: _, dy: _ } => false,
+        _ => true,
+    }
+}
 
 // A command's fault, or 0 for none.
 pub fn fault_of(store: &[u8], f: Frame, x: Context, c: Command) -> u8

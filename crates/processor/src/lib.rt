@@ -3,8 +3,12 @@
 ghost use mathlib.Core.Path.{_≡_};
 ghost use lib.ListN.{length};
 ghost use Rattle.model.specs.Commands.{Addressed};
+ghost use Rattle.model.specs.Faults.{contextOf, faultOf};
+ghost use Rattle.faults.specs.Checking.{Checkable};
 ghost use Rattle.perform.specs.Performing.{Sound};
 ghost use Rattle.processor.specs.Obeying.{Obeys, Runs, finishedWith, stoppedOf};
+use faults::fault_of;
+use faults::may_fault;
 use model::Command;
 use model::Context;
 use model::Decoded;
@@ -28,21 +32,32 @@ fn finish_with(pane: Pane, count: u32, paint: u64) -> Finished
     Finished { pane, count, paint }
 }
 
+// A command's fault, or 0 for none; where it can't have one, what faults depend on is not gathered.
+fn fault_in(store: &[u8], f: Frame, p: Pane, c: Command) -> u8
+    requires { ⌜ Checkable (f .geometry) (f .row) (contextOf p) (length (now store)) × Addressed c ⌝ }
+    ensures { λ n. ⌜ n ≡ faultOf (f .geometry) (f .row) (contextOf p) (now (store .entry)) c ⌝ }
+{
+    if may_fault(c) {
+        let bitmap = p.bitmap;
+        let text = p.text;
+        let font = text.font;
+        let x = Context {
+            bitmap,
+            font,
+            kept: p.returns.count,
+        };
+        return fault_of(store, f, x, c);
+    }
+    0
+}
+
 // A command tried: faulty, it is only recorded, and else it is done and counts one.
 fn obey(screen: &mut [u8], store: &mut [u8], f: Frame, p: Pane, c: Command, next: u32) -> Finished
     requires { ⌜ Sound (f .geometry) (f .row) p (length (now screen)) (length (now store)) × Addressed c ⌝ }
     ensures { λ s. ⌜ Obeys (f .geometry) (f .row) p next c (now (screen .entry)) (now (store .entry))
         s (now (screen .exit)) (now (store .exit)) ⌝ }
 {
-    let bitmap = p.bitmap;
-    let text = p.text;
-    let font = text.font;
-    let x = Context {
-        bitmap,
-        font,
-        kept: p.returns.count,
-    };
-    let fault = faults::fault_of(store, f, x, c);
+    let fault = fault_in(store, f, p, c);
     if fault != 0 {
         return finish_with(control::faulted(p, fault), 0, 0);
     }

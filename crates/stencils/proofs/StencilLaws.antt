@@ -5,22 +5,19 @@ use mathlib.Core.Bool.{Bool, true, false, cond, _&&_}
 use mathlib.Core.List.{List}
 use Prim.Native.Nat.{ℕ, zero, suc, _+_, _-_, _*_, _/_, _%_, _^_, _≤_, _<_}
 use native.Mathlib.Omega.{arith}
-use native.Mathlib.Decide.{ℕ-discrete, decLt}
+use native.Mathlib.Decide.{decLt}
 use native.Mathlib.Nat.{add-comm}
 use lib.Bits.{bitAnd, bitXor}
-use lib.ListN.{length, getD, set, length-set}
-use lib.Seq.{getD-set-same, getD-set-other}
+use lib.ListN.{getD}
 use Rattle.model.specs.Words.{bit, bitAt}
-use Rattle.model.specs.Bitmaps.{Depth}
 use Rattle.model.proofs.BitLaws.{bit-shr}
 use Rattle.model.proofs.Decisions.{cond-true, cond-false}
 use Rattle.raster.proofs.BitLaws.{bit-zero, bit-mod, bit-xor, differs}
-use Rattle.raster.proofs.Table.{tabulate, each}
+use Rattle.raster.proofs.Table.{each}
 use Rattle.strips.specs.Stretches.{across, In, Out, Stretched}
-use Rattle.strips.specs.Strips.{mixed, mixedBit, Put, RotatedLeft, OverOf, Fourfold}
+use Rattle.strips.specs.Strips.{mixed, mixedBit, Put, RotatedLeft, FirstOver, LastOver}
 use Rattle.strips.specs.Strokes.{patternOn}
 use Rattle.strips.specs.declared.inks.Ink.{Ink}
-use Rattle.strips.specs.declared.patterns.Over.{Over}
 use Rattle.strips.proofs.FieldBits.{Bytes}
 use Rattle.strips.proofs.BitParts.{bit-low, bit-high, bit-beyond}
 use Rattle.strips.proofs.EdgeLaws.{kept-bit, over-bit}
@@ -132,7 +129,8 @@ cover-whole lo hi r h e = record {
     past i l (inr o) = absurd (omega arith)
 
 -- .. up to bit hi - 1
-pub cover-part : (lo hi r : ℕ) → lo < hi → hi < 64 → ((i : ℕ) → i < 64 → bit r i ≡ bit (bitXor (all / 2 ^ lo) (all / 2 ^ hi)) (63 - across 0 i)) → FourCovers lo hi r
+pub cover-part : (lo hi r : ℕ) → lo < hi → hi < 64
+    → ((i : ℕ) → i < 64 → bit r i ≡ bit (bitXor (all / 2 ^ lo) (all / 2 ^ hi)) (63 - across 0 i)) → FourCovers lo hi r
 cover-part lo hi r k h e = record {
   on = λ i l a b. e i l ∙ bit-xor (63 - across 0 i) (all / 2 ^ lo) (all / 2 ^ hi)
       ∙ ap₂ differs (lead-on lo (63 - across 0 i) (omega arith)) (lead-off hi (63 - across 0 i) (omega arith));
@@ -210,12 +208,12 @@ far-byte at n m (inr l) = inr (omega arith)
 abbrev pub covering : ℕ → ℕ → ℕ → ℕ → ℕ
 covering old keep flip cover = bitXor old (bitAnd (bitXor old (mixed old keep flip)) cover)
 
--- all eight bytes at once
+-- eight bytes put at once
 pub put-mixed : (at : ℕ) (ink : WideInk) (cover x : ℕ) (old new : List ℕ) → ((i : ℕ) → i < 64 → bit x i ≡ bitAt old (8 * at + i))
     → Put 8 at (covering x (ink .keep) (ink .flip) cover) old new → FourMixed at ink cover old new
 put-mixed at ink cover x old new e p = record {
   length = p .length;
-  on = λ i l h c. at-i i l ∙ cond-true _ _ c ∙ ap (mixedBit (ink .keep) (ink .flip) i) (e i l);
+  on = λ i l c. at-i i l ∙ cond-true _ _ c ∙ ap (mixedBit (ink .keep) (ink .flip) i) (e i l);
   off = λ i l c. at-i i l ∙ cond-false _ _ c ∙ e i l;
   outside = λ m o. kept-bit m old new (p .outside (m / 8) (far-byte at 8 m o));
 }
@@ -226,70 +224,6 @@ put-mixed at ink cover x old new e p = record {
         at-bit new at i ∙ ap (λ (b : ℕ). bit b (i % 8)) (p .inside (i / 8) (omega arith))
         ∙ byte-bit (covering x (ink .keep) (ink .flip) cover) (i / 8) (i % 8) (omega arith)
         ∙ ap (bit (covering x (ink .keep) (ink .flip) cover)) z ∙ over-bit x (ink .keep) (ink .flip) cover i
-
--- byte k of them
-abbrev pub mixedByte : WideInk → ℕ → ℕ → ℕ → ℕ
-mixedByte ink cover k old = covering old (ink .keep / 2 ^ (8 * k) % 2 ^ 8) (ink .flip / 2 ^ (8 * k) % 2 ^ 8) (cover / 2 ^ (8 * k) % 2 ^ 8)
-
--- the first n bytes
-pub record BytesMixed (n at : ℕ) (ink : WideInk) (cover : ℕ) (old new : List ℕ) : Type 0 where
-  pub length : length new ≡ length old
-  pub inside : (k : ℕ) → k < n → getD new (at + k) 0 ≡ mixedByte ink cover k (getD old (at + k) 0)
-  pub outside : (i : ℕ) → (i < at) ⊎ (at + n ≤ i) → getD new i 0 ≡ getD old i 0
-
-pub bytes-none : (at : ℕ) (ink : WideInk) (cover : ℕ) (s : List ℕ) → BytesMixed 0 at ink cover s s
-bytes-none at ink cover s = record { length = refl; inside = λ k h. absurd (omega arith); outside = λ i h. refl }
-
-pub bytes-next : (n at : ℕ) (ink : WideInk) (cover : ℕ) (old s : List ℕ) → BytesMixed n at ink cover old s → at + n < length s
-    → BytesMixed (n + 1) at ink cover old (set s (at + n) (mixedByte ink cover n (getD s (at + n) 0)))
-bytes-next n at ink cover old s p h =
-    record {
-      length = length-set s (at + n) _ ∙ p .length;
-      inside = λ k l. go k l (ℕ-discrete k n);
-      outside = λ i o. getD-set-other s (at + n) i _ 0 (λ e. apart i o e) ∙ p .outside i (less i o);
-    }
-  where
-    apart : (i : ℕ) → (i < at) ⊎ (at + (n + 1) ≤ i) → i ≡ at + n → ⊥
-    apart i (inl l) e = omega arith
-    apart i (inr l) e = omega arith
-
-    less : (i : ℕ) → (i < at) ⊎ (at + (n + 1) ≤ i) → (i < at) ⊎ (at + n ≤ i)
-    less i (inl l) = inl l
-    less i (inr l) = inr (omega arith)
-
-    go : (k : ℕ) → k < n + 1 → Dec (k ≡ n)
-        → getD (set s (at + n) (mixedByte ink cover n (getD s (at + n) 0))) (at + k) 0 ≡ mixedByte ink cover k (getD old (at + k) 0)
-    go k l (yes e) = rw e (getD-set-same s (at + n) _ 0 h ∙ ap (mixedByte ink cover n) (p .outside (at + n) (inr (omega arith))))
-    go k l (no d) = getD-set-other s (at + n) (at + k) _ 0 (λ e. d (omega arith)) ∙ p .inside k (omega arith)
-
--- .. up to the buffer's end
-pub bytes-mixed : (n at : ℕ) (ink : WideInk) (cover : ℕ) (old new : List ℕ) → BytesMixed n at ink cover old new → length old ≡ at + n → n ≤ 8
-    → FourMixed at ink cover old new
-bytes-mixed n at ink cover old new p e h = record {
-  length = p .length;
-  on = λ i l b c. at-i i (omega arith) ∙ cond-true _ _ c;
-  off = λ i l c. none i c (decLt (i / 8) n);
-  outside = λ m o. kept-bit m old new (p .outside (m / 8) (far m o));
-}
-  where
-    far : (m : ℕ) → (m < 8 * at) ⊎ (8 * at + 64 ≤ m) → (m / 8 < at) ⊎ (at + n ≤ m / 8)
-    far m (inl l) = inl (omega arith)
-    far m (inr l) = inr (omega arith)
-
-    at-i : (i : ℕ) → i / 8 < n → bitAt new (8 * at + i)
-        ≡ cond (bit cover i) (mixedBit (ink .keep) (ink .flip) i (bitAt old (8 * at + i))) (bitAt old (8 * at + i))
-    at-i i l =
-        let z : 8 * (i / 8) + i % 8 ≡ i = omega arith in
-        let j : i % 8 < 8 = omega arith in
-        at-bit new at i ∙ ap (λ (b : ℕ). bit b (i % 8)) (p .inside (i / 8) l)
-        ∙ over-bit (getD old (at + i / 8) 0) (ink .keep / 2 ^ (8 * (i / 8)) % 2 ^ 8) (ink .flip / 2 ^ (8 * (i / 8)) % 2 ^ 8)
-        (cover / 2 ^ (8 * (i / 8)) % 2 ^ 8) (i % 8)
-        ∙ rw (byte-bit (ink .keep) (i / 8) (i % 8) j, byte-bit (ink .flip) (i / 8) (i % 8) j, byte-bit cover (i / 8) (i % 8) j, z, ← (at-bit old at i)) refl
-
-    none : (i : ℕ) → bit cover i ≡ false → Dec (i / 8 < n) → bitAt new (8 * at + i) ≡ bitAt old (8 * at + i)
-    none i c (yes l) = at-i i l ∙ cond-false _ _ c
-    none i c (no l) =
-        at-bit new at i ∙ ap (λ (b : ℕ). bit b (i % 8)) (p .outside (at + i / 8) (inr (omega arith))) ∙ sym (at-bit old at i)
 
 -- ## Stretches of a row
 
@@ -304,10 +238,10 @@ across-word o q i =
 
 -- the four words from word q on of a row, mixed at their bits from the left, lo to hi - 1
 four-stretched : (g : ℕ → Bool → Bool) (o q lo hi cover : ℕ) (ink : WideInk) {old new : List ℕ} → FourMixed (o + 2 * q) ink cover old new
-    → FourCovers lo hi cover → hi ≤ 64 → o + 2 * q + 2 * ((hi + 15) / 16) ≤ length old
+    → FourCovers lo hi cover → hi ≤ 64
     → ((i : ℕ) → i < 64 → (v : Bool) → mixedBit (ink .keep) (ink .flip) i v ≡ g (8 * (o + 2 * q) + i) v)
     → Stretched g o (16 * q + lo) (16 * q + hi) old new
-four-stretched g o q lo hi cover ink {old} {new} e c w room mixes = record {
+four-stretched g o q lo hi cover ink {old} {new} e c w mixes = record {
   length = e .length;
   inside = λ m i.
       let z : m ≡ 8 * (o + 2 * q) + (m - 8 * (o + 2 * q)) = omega (arith, i .row, i .from) in
@@ -321,7 +255,7 @@ four-stretched g o q lo hi cover ink {old} {new} e c w room mixes = record {
         let f : lo ≤ across 0 r = omega (arith, i .from, a) in
         let t : across 0 r < hi = omega (arith, i .to, a) in
         let k : r < 64 = omega arith in
-        rw z (e .on r k (omega arith) (c .on r k f t) ∙ mixes r k _)
+        rw z (e .on r k (c .on r k f t) ∙ mixes r k _)
 
     off : (m r : ℕ) → m ≡ 8 * (o + 2 * q) + r → r < 64 → Out o (16 * q + lo) (16 * q + hi) m → bitAt new m ≡ bitAt old m
     off m r z k i = rw z (e .off r k (c .off r k (by i)))
@@ -379,7 +313,7 @@ module _ (s : Stencil) (us : Usable s) (cells o : ℕ) where
       less : (w n a : ℕ) → 16 * (w + n) + a - 16 * w ≡ 16 * n + a
       less w n a = omega arith
 
-  module _ (turned : ℕ) (over : Over) (rotated : RotatedLeft cells (s .turn) turned) (ov : OverOf turned (s .bits) over) where
+  module _ (turned over : ℕ) (rotated : RotatedLeft cells (s .turn) turned) (ov : FirstOver turned (s .bits) over) where
     turned-bit : (a : ℕ) → bit turned (15 - a / s .bits % 16) ≡ patternOn cells (s .turn + a / s .bits)
     turned-bit a = rotated (a / s .bits) ∙ ap (patternOn cells) (add-comm (a / s .bits) (s .turn))
 
@@ -388,77 +322,77 @@ module _ (s : Stencil) (us : Usable s) (cells o : ℕ) where
     again a = depth-elim (λ b. (s .turn + a / b) % 16 ≡ (s .turn + (16 * 8 + a) / b) % 16)
         (omega arith) (omega arith) (omega arith) (omega arith) (us .depth)
 
-    low : (i : ℕ) → i < 64 → bit (over .low) i ≡ patternOn cells (s .turn + (16 * 0 + across 0 i) / s .bits)
+    low : (i : ℕ) → i < 64 → bit over i ≡ patternOn cells (s .turn + (16 * 0 + across 0 i) / s .bits)
     low i l = let z : across 0 i ≡ 16 * 0 + across 0 i = omega arith in
-        ov .low i l ∙ turned-bit (across 0 i) ∙ ap (λ (a : ℕ). patternOn cells (s .turn + a / s .bits)) z
+        ov .first i l ∙ turned-bit (across 0 i) ∙ ap (λ (a : ℕ). patternOn cells (s .turn + a / s .bits)) z
 
-    high : (i : ℕ) → i < 64 → bit (over .high) i ≡ patternOn cells (s .turn + (16 * 4 + across 0 i) / s .bits)
-    high i l = ov .high i l ∙ turned-bit (across 0 (64 + i)) ∙ ap (λ (a : ℕ). patternOn cells (s .turn + a / s .bits)) (across-on 4 i)
-
-    third : (i : ℕ) → i < 64 → bit (over .low) i ≡ patternOn cells (s .turn + (16 * 8 + across 0 i) / s .bits)
-    third i l = ov .low i l ∙ turned-bit (across 0 i) ∙ ap (λ (k : ℕ). bit cells (15 - k)) (again (across 0 i))
+    third : (i : ℕ) → i < 64 → bit over i ≡ patternOn cells (s .turn + (16 * 8 + across 0 i) / s .bits)
+    third i l = ov .first i l ∙ turned-bit (across 0 i) ∙ ap (λ (k : ℕ). bit cells (15 - k)) (again (across 0 i))
 
     abbrev Rule : ℕ → Bool → Bool
     Rule = stencilled s cells o
 
     -- the four words from word n of the stencil on
     part : (n lo hi cover over : ℕ) (ink : WideInk) {old new : List ℕ} → FourMixed (o + 2 * (s .word + n)) ink cover old new
-        → FourCovers lo hi cover → hi ≤ 64 → o + 2 * (s .word + n) + 2 * ((hi + 15) / 16) ≤ length old → Chosen (s .fore) (s .back) over ink
+        → FourCovers lo hi cover → hi ≤ 64 → Chosen (s .fore) (s .back) over ink
         → ((i : ℕ) → i < 64 → bit over i ≡ patternOn cells (s .turn + (16 * n + across 0 i) / s .bits))
         → Stretched Rule o (16 * (s .word + n) + lo) (16 * (s .word + n) + hi) old new
-    part n lo hi cover over ink p c h room k e =
-        four-stretched Rule o (s .word + n) lo hi cover ink p c h room (mix-rule n k e)
+    part n lo hi cover over ink p c h k e = four-stretched Rule o (s .word + n) lo hi cover ink p c h (mix-rule n k e)
 
-    -- all bits of the stencil, in four words, in eight or in twelve
-    module _ (old : List ℕ) (room : o + 2 * (s .word + (s .end + 15) / 16) ≤ length old) where
-      first : {t : List ℕ} (hi : ℕ) {a : WideInk} → FourMixed (o + 2 * s .word) a (s .first) old t → Chosen (s .fore) (s .back) (over .low) a
-          → FourCovers (s .lead) hi (s .first) → hi ≤ 64 → hi ≤ s .end → Stretched Rule o (16 * s .word + s .lead) (16 * s .word + hi) old t
-      first {t} hi {a} p f c h k =
-          let e : s .word + 0 ≡ s .word = omega arith in
-          let q : FourMixed (o + 2 * (s .word + 0)) a (s .first) old t = rw e p in
-          rw e at (part 0 (s .lead) hi (s .first) (over .low) a q c h (omega arith) f low)
+    -- the stencil's first four words, and its last four of twelve
+    first : {old t : List ℕ} (hi : ℕ) {a : WideInk} → FourMixed (o + 2 * s .word) a (s .first) old t → Chosen (s .fore) (s .back) over a
+        → FourCovers (s .lead) hi (s .first) → hi ≤ 64 → Stretched Rule o (16 * s .word + s .lead) (16 * s .word + hi) old t
+    first {old} {t} hi {a} p f c h =
+        let e : s .word + 0 ≡ s .word = omega arith in
+        let q : FourMixed (o + 2 * (s .word + 0)) a (s .first) old t = rw e p in
+        rw e at (part 0 (s .lead) hi (s .first) over a q c h f low)
 
-      second : {t u : List ℕ} (hi : ℕ) {b : WideInk} → length t ≡ length old → FourMixed (o + 2 * s .word + 8) b (s .second) t u
-          → Chosen (s .fore) (s .back) (over .high) b → FourCovers 0 hi (s .second) → hi ≤ 64 → 64 + hi ≤ s .end
-          → Stretched Rule o (16 * s .word + 64) (16 * s .word + (64 + hi)) t u
-      second {t} {u} hi {b} n p f c h k =
+    last : {u new : List ℕ} {c : WideInk} → FourMixed (o + 2 * s .word + 16) c (s .third) u new → Chosen (s .fore) (s .back) over c
+        → 128 ≤ s .end → Stretched Rule o (16 * s .word + 128) (16 * s .word + s .end) u new
+    last {u} {new} {c} p f k =
+        let e : o + 2 * s .word + 16 ≡ o + 2 * (s .word + 8) = omega arith in
+        let x : 16 * (s .word + 8) + 0 ≡ 16 * s .word + 128 = omega arith in
+        let y : 16 * (s .word + 8) + (s .end - 128) ≡ 16 * s .word + s .end = omega arith in
+        let q : FourMixed (o + 2 * (s .word + 8)) c (s .third) u new = rw e at p in
+        rw (x, y) at (part 8 0 (s .end - 128) (s .third) over c q (us .third) (omega (arith, us .end)) f third)
+
+    -- all bits of the stencil, in four words
+    pub in-four : {old new : List ℕ} {a : WideInk} → FourMixed (o + 2 * s .word) a (s .first) old new → Chosen (s .fore) (s .back) over a → s .end ≤ 64
+        → Stretched Rule o (16 * s .word + s .lead) (16 * s .word + s .end) old new
+    in-four p f h = first (s .end) p f (us .first) h
+
+    module _ (after : ℕ) (lv : LastOver turned (s .bits) after) where
+      high : (i : ℕ) → i < 64 → bit after i ≡ patternOn cells (s .turn + (16 * 4 + across 0 i) / s .bits)
+      high i l = lv .last i l ∙ turned-bit (across 0 (64 + i)) ∙ ap (λ (a : ℕ). patternOn cells (s .turn + a / s .bits)) (across-on 4 i)
+
+      -- its second four words
+      second : {t u : List ℕ} (hi : ℕ) {b : WideInk} → FourMixed (o + 2 * s .word + 8) b (s .second) t u → Chosen (s .fore) (s .back) after b
+          → FourCovers 0 hi (s .second) → hi ≤ 64 → Stretched Rule o (16 * s .word + 64) (16 * s .word + (64 + hi)) t u
+      second {t} {u} hi {b} p f c h =
           let e : o + 2 * s .word + 8 ≡ o + 2 * (s .word + 4) = omega arith in
           let x : 16 * (s .word + 4) + 0 ≡ 16 * s .word + 64 = omega arith in
           let y : 16 * (s .word + 4) + hi ≡ 16 * s .word + (64 + hi) = omega arith in
           let q : FourMixed (o + 2 * (s .word + 4)) b (s .second) t u = rw e at p in
-          rw (x, y) at (part 4 0 hi (s .second) (over .high) b q c h (omega arith) f high)
+          rw (x, y) at (part 4 0 hi (s .second) after b q c h f high)
 
-      last : {u new : List ℕ} {c : WideInk} → length u ≡ length old → FourMixed (o + 2 * s .word + 16) c (s .third) u new
-          → Chosen (s .fore) (s .back) (over .low) c → 128 ≤ s .end → Stretched Rule o (16 * s .word + 128) (16 * s .word + s .end) u new
-      last {u} {new} {c} n p f k =
-          let e : o + 2 * s .word + 16 ≡ o + 2 * (s .word + 8) = omega arith in
-          let x : 16 * (s .word + 8) + 0 ≡ 16 * s .word + 128 = omega arith in
-          let y : 16 * (s .word + 8) + (s .end - 128) ≡ 16 * s .word + s .end = omega arith in
-          let q : FourMixed (o + 2 * (s .word + 8)) c (s .third) u new = rw e at p in
-          rw (x, y) at (part 8 0 (s .end - 128) (s .third) (over .low) c q (us .third) (omega (arith, us .end)) (omega arith) f third)
-
-      pub in-four : {new : List ℕ} {a : WideInk} → FourMixed (o + 2 * s .word) a (s .first) old new → Chosen (s .fore) (s .back) (over .low) a → s .end ≤ 64
-          → Stretched Rule o (16 * s .word + s .lead) (16 * s .word + s .end) old new
-      in-four p f h = first (s .end) p f (us .first) h (omega arith)
-
-      pub in-eight : {t new : List ℕ} {a b : WideInk} → FourMixed (o + 2 * s .word) a (s .first) old t → Chosen (s .fore) (s .back) (over .low) a
-          → FourMixed (o + 2 * s .word + 8) b (s .second) t new → Chosen (s .fore) (s .back) (over .high) b → 64 < s .end → s .end ≤ 128
+      -- .. in eight words or in twelve
+      pub in-eight : {old t new : List ℕ} {a b : WideInk} → FourMixed (o + 2 * s .word) a (s .first) old t → Chosen (s .fore) (s .back) over a
+          → FourMixed (o + 2 * s .word + 8) b (s .second) t new → Chosen (s .fore) (s .back) after b → 64 < s .end → s .end ≤ 128
           → Stretched Rule o (16 * s .word + s .lead) (16 * s .word + s .end) old new
       in-eight p f q g h k =
           let z : 64 + (s .end - 64) ≡ s .end = omega arith in
-          stretched-then (first 64 p f (whole-cover (us .first) (omega arith)) (omega arith) (omega arith))
-          (rw z at (second (s .end - 64) (p .length) q g (us .second) (omega arith) (omega arith)))
-          (omega (arith, us .lead)) (omega arith)
+          stretched-then (first 64 p f (whole-cover (us .first) (omega arith)) (omega arith))
+          (rw z at (second (s .end - 64) q g (us .second) (omega arith))) (omega (arith, us .lead)) (omega arith)
 
-      pub in-twelve : {t u new : List ℕ} {a b c : WideInk} → FourMixed (o + 2 * s .word) a (s .first) old t → Chosen (s .fore) (s .back) (over .low) a
-          → FourMixed (o + 2 * s .word + 8) b (s .second) t u → Chosen (s .fore) (s .back) (over .high) b
-          → FourMixed (o + 2 * s .word + 16) c (s .third) u new → Chosen (s .fore) (s .back) (over .low) c → 128 < s .end
+      pub in-twelve : {old t u new : List ℕ} {a b c : WideInk} → FourMixed (o + 2 * s .word) a (s .first) old t → Chosen (s .fore) (s .back) over a
+          → FourMixed (o + 2 * s .word + 8) b (s .second) t u → Chosen (s .fore) (s .back) after b
+          → FourMixed (o + 2 * s .word + 16) c (s .third) u new → Chosen (s .fore) (s .back) over c → 128 < s .end
           → Stretched Rule o (16 * s .word + s .lead) (16 * s .word + s .end) old new
       in-twelve p f q g r j h =
           stretched-then
-          (stretched-then (first 64 p f (whole-cover (us .first) (omega arith)) (omega arith) (omega arith))
-          (second 64 (p .length) q g (whole-cover (us .second) (omega arith)) (omega arith) (omega arith)) (omega (arith, us .lead)) (omega arith))
-          (last (q .length ∙ p .length) r j (omega arith)) (omega (arith, us .lead)) (omega arith)
+          (stretched-then (first 64 p f (whole-cover (us .first) (omega arith)) (omega arith))
+          (second 64 q g (whole-cover (us .second) (omega arith)) (omega arith)) (omega (arith, us .lead)) (omega arith))
+          (last r j (omega arith)) (omega (arith, us .lead)) (omega arith)
 
 -- ## Inks
 

@@ -19,9 +19,9 @@ pub record FourCovers (lo hi cover : ℕ) : Type 0 where
   pub on : (i : ℕ) → i < 64 → lo ≤ across 0 i → across 0 i < hi → bit cover i ≡ true
   pub off : (i : ℕ) → i < 64 → (across 0 i < lo) ⊎ (hi ≤ across 0 i) → bit cover i ≡ false
 
--- the four words at byte `at`, as far as the buffer has them, mixed where the cover is 1; all other bits kept
+-- the four words at byte `at` mixed where the cover is 1; all other bits kept
 pub record FourMixed (at : ℕ) (ink : WideInk) (cover : ℕ) (old new : List ℕ) : Type 0 where
-  pub on : (i : ℕ) → i < 64 → at + i / 8 < length old → bit cover i ≡ true
+  pub on : (i : ℕ) → i < 64 → bit cover i ≡ true
       → bitAt new (8 * at + i) ≡ mixedBit (ink .keep) (ink .flip) i (bitAt old (8 * at + i))
   pub off : (i : ℕ) → i < 64 → bit cover i ≡ false → bitAt new (8 * at + i) ≡ bitAt old (8 * at + i)
   pub outside : (m : ℕ) → (m < 8 * at) ⊎ (8 * at + 64 ≤ m) → bitAt new m ≡ bitAt old m
@@ -64,6 +64,10 @@ pub record Usable (s : Stencil) : Type 0 where
   pub first : FourCovers (s .lead) (s .end) (s .first)
   pub second : FourCovers 0 (s .end - 64) (s .second)
   pub third : FourCovers 0 (s .end - 128) (s .third)
+
+-- the row that begins at byte `row` has whole groups of four words for all bits of the stencil
+abbrev pub RoomFor : Stencil → ℕ → ℕ → Type 0
+RoomFor s row n = row + 2 * s .word + 8 * ((s .end + 63) / 64) ≤ n
 
 -- the stencil of bits lo .. hi - 1 of a row, the pattern's index being `turn` at the first pixel of the first word
 pub record StencilOf (fore back : Ink) (bits turn lo hi : ℕ) (s : Stencil) : Type 0 where

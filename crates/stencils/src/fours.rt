@@ -1,4 +1,5 @@
-// Four words of a buffer, mixed under a cover: at once, or byte by byte where the buffer ends before they do.
+// Four words of a buffer, mixed under a cover. All four are read and written, and those under no cover stay as they
+// are: the caller sees to it that the buffer has them.
 ghost use mathlib.Core.Path.{_≡_};
 ghost use Prim.Native.Nat.{ℕ, _+_, _*_, _≤_, _<_};
 ghost use lib.ListN.{length};
@@ -29,32 +30,11 @@ fn eight(buf: &[u8], at: usize) -> u64
     low + high * 4294967296
 }
 
-// The bytes from byte `at` to the buffer's end, eight at the most, mixed.
-fn rest(buf: &mut [u8], at: usize, ink: WideInk, cover: u64)
-    requires { ⌜ (at ≤ length (now buf)) × (length (now buf) ≤ at + 8) ⌝ }
-    ensures { λ _. ⌜ FourMixed at ink cover (now (buf .entry)) (now (buf .exit)) ⌝ }
-{
-    let n = buf.len() - at;
-    let mut k: usize = 0;
-    while k < n {
-        let old = buf[at + k];
-        let keep = ((ink.keep >> (8 * k)) % 256) as u8;
-        let flip = ((ink.flip >> (8 * k)) % 256) as u8;
-        let part = ((cover >> (8 * k)) % 256) as u8;
-        buf[at + k] = old ^ ((old ^ ((old & keep) ^ flip)) & part);
-        k += 1;
-    }
-}
-
-// Four words, or as many bytes of them as the buffer has.
+// Four words become (old & keep) ^ flip where the cover is 1.
 pub fn mix(buf: &mut [u8], at: usize, ink: WideInk, cover: u64)
-    requires { ⌜ at ≤ length (now buf) ⌝ }
+    requires { ⌜ at + 8 ≤ length (now buf) ⌝ }
     ensures { λ _. ⌜ FourMixed at ink cover (now (buf .entry)) (now (buf .exit)) ⌝ }
 {
-    if buf.len() - at < 8 {
-        rest(buf, at, ink, cover);
-        return;
-    }
     let old = eight(buf, at);
     put(
         buf,

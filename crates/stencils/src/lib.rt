@@ -1,19 +1,20 @@
 // A row of at most sixteen cells drawn through two inks, four words at a time: the words beside the cells, which lie
-// under no cover, are read and written as they are.
+// under no cover, are read and written as they are. The caller sees to it that the buffer has them.
 pub mod covers; // covers.rt: which bits of four words are drawn
 pub mod fours; // fours.rt: four words of a buffer mixed under a cover
 
-ghost use Prim.Native.Nat.{_+_, _*_, _/_, _≤_, _<_};
+ghost use Prim.Native.Nat.{_+_, _*_, _≤_, _<_};
 ghost use lib.ListN.{length};
 ghost use Rattle.model.specs.Bitmaps.{Depth};
 ghost use Rattle.strips.specs.Stretches.{Stretched};
-ghost use Rattle.stencils.specs.Stencils.{WideOf, Chosen, Usable, StencilOf, stencilled};
+ghost use Rattle.stencils.specs.Stencils.{WideOf, Chosen, Usable, StencilOf, RoomFor, stencilled};
 use crate::covers::cover_from;
 use crate::covers::cover_of;
 use crate::fours::WideInk;
 use crate::fours::mix;
 use strips::inks::Ink;
-use strips::patterns::over_of;
+use strips::patterns::over_first;
+use strips::patterns::over_last;
 use strips::patterns::rotate_left;
 use strips::weaves::four;
 
@@ -77,19 +78,22 @@ fn chosen(s: Stencil, over: u64) -> WideInk
     }
 }
 
-// Cells drawn in the row that begins at byte `row`: sixteen, the leftmost in bit 15, again and again.
+// Cells drawn in the row that begins at byte `row`: sixteen, the leftmost in bit 15, again and again. The buffer has
+// four whole words for each four that are drawn on.
 pub fn draw_cells(buf: &mut [u8], s: Stencil, row: usize, cells: u16)
-    requires { ⌜ Usable s × (row + 2 * (s .word + (s .end + 15) / 16) ≤ length (now buf)) ⌝ }
+    requires { ⌜ Usable s × RoomFor s row (length (now buf)) ⌝ }
     ensures { λ _. ⌜ Stretched (stencilled s cells row) row (16 * s .word + s .lead) (16 * s .word + s .end)
         (now (buf .entry)) (now (buf .exit)) ⌝ }
 {
     let at = row + 2 * s.word;
-    let over = over_of(rotate_left(cells, s.turn), s.bits);
-    mix(buf, at, chosen(s, over.low), s.first);
+    let met = rotate_left(cells, s.turn);
+    let first = over_first(met, s.bits);
+    mix(buf, at, chosen(s, first), s.first);
     if s.end > 64 {
-        mix(buf, at + 8, chosen(s, over.high), s.second);
+        let last = over_last(met, s.bits, first);
+        mix(buf, at + 8, chosen(s, last), s.second);
         if s.end > 128 {
-            mix(buf, at + 16, chosen(s, over.low), s.third);
+            mix(buf, at + 16, chosen(s, first), s.third);
         }
     }
 }

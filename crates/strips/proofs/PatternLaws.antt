@@ -32,12 +32,12 @@ factor b e h l p q r = go (decLt b 1) (decLt b 4) (decLt b 5) (decLt b 6) (decLt
 pub depth-8 : {b : ℕ} → Depth b → (b ≡ 1 → ⊥) → (b ≡ 2 → ⊥) → (b ≡ 4 → ⊥) → b ≡ 8
 depth-8 {b} d p q r = factor b (d .e) (d .fills) (depth-bounds d .1) p q r
 
-pub depth-1 : {b : ℕ} → Depth b → (b ≡ 8 → ⊥) → (b ≡ 4 → ⊥) → (b ≡ 2 → ⊥) → b ≡ 1
-depth-1 {b} d p q r = go (ℕ-discrete b 1)
+pub depth-2 : {b : ℕ} → Depth b → (b ≡ 1 → ⊥) → (b ≡ 8 → ⊥) → (b ≡ 4 → ⊥) → b ≡ 2
+depth-2 {b} d p q r = go (ℕ-discrete b 2)
   where
-    go : Dec (b ≡ 1) → b ≡ 1
+    go : Dec (b ≡ 2) → b ≡ 2
     go (yes e) = e
-    go (no n) = absurd (p (depth-8 d n r q))
+    go (no n) = absurd (q (depth-8 d p n r))
 
 -- what holds at 1, 2, 4 and 8 holds at every depth
 pub depth-elim : (P : ℕ → Type 0) → P 1 → P 2 → P 4 → P 8 → {b : ℕ} → Depth b → P b

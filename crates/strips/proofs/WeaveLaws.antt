@@ -16,9 +16,9 @@ use Rattle.model.proofs.BitLaws.{bit-num, num-cong, bit-shr}
 use Rattle.raster.proofs.BitLaws.{bit-zero, num-bit, differs}
 use Rattle.raster.proofs.PlaceLaws.{xor-one}
 use Rattle.strips.specs.declared.inks.Ink.{Ink}
-use Rattle.strips.specs.declared.patterns.Over.{Over}
 use Rattle.strips.specs.Stretches.{across}
-use Rattle.strips.specs.Strips.{mixedBit, penBit, InkOf, columnOf, keepAt, flipAt, Under, Put, wovenByte, StripOf, Wove, RotatedLeft, OverOf, Woven}
+use Rattle.strips.specs.Strips.{mixedBit, penBit, InkOf, columnOf, keepAt, flipAt, Under, Put, wovenByte, StripOf, Wove}
+use Rattle.strips.specs.Strips.{RotatedLeft, FirstOver, LastOver, Woven}
 
 -- ## Bytes put one by one
 
@@ -81,20 +81,21 @@ byte-is pattern bits t laid over fore back r off k tu e o u h = sym (num-bit 8 (
 
 -- ## A strip
 
-module _ (fore back : Ink) (pattern bits t laid : ℕ) (over : Over) (tu : RotatedLeft pattern t laid) (o : OverOf laid bits over) where
-  low : (fore back r k : ℕ) → Under (over .low) fore back r → k < 8 → r / 2 ^ (8 * k) % 2 ^ 8 ≡ wovenByte pattern bits t fore back k
+module _ (fore back : Ink) (pattern bits t laid first last : ℕ) (tu : RotatedLeft pattern t laid) (fo : FirstOver laid bits first)
+    (lo : LastOver laid bits last) where
+  low : (fore back r k : ℕ) → Under first fore back r → k < 8 → r / 2 ^ (8 * k) % 2 ^ 8 ≡ wovenByte pattern bits t fore back k
   low f b r k u h =
-      byte-is pattern bits t laid (over .low) f b r 0 k tu refl
-      (λ i l. o .low i l ∙ ap (λ (m : ℕ). bit laid (15 - across 0 m / bits % 16)) (sym (zero-add i))) u h
+      byte-is pattern bits t laid first f b r 0 k tu refl
+      (λ i l. fo .first i l ∙ ap (λ (m : ℕ). bit laid (15 - across 0 m / bits % 16)) (sym (zero-add i))) u h
       ∙ ap (wovenByte pattern bits t f b) (zero-add k)
 
-  high : (fore back r k : ℕ) → Under (over .high) fore back r → k < 8 → r / 2 ^ (8 * k) % 2 ^ 8 ≡ wovenByte pattern bits t fore back (8 + k)
-  high f b r k u h = byte-is pattern bits t laid (over .high) f b r 8 k tu refl (o .high) u h
+  high : (fore back r k : ℕ) → Under last fore back r → k < 8 → r / 2 ^ (8 * k) % 2 ^ 8 ≡ wovenByte pattern bits t fore back (8 + k)
+  high f b r k u h = byte-is pattern bits t laid last f b r 8 k tu refl (lo .last) u h
 
   module _ (x y z w : ℕ) (old s₁ s₂ s₃ new : List ℕ) (p₁ : Put 8 (32 * t) x old s₁) (p₂ : Put 8 (32 * t + 8) y s₁ s₂)
       (p₃ : Put 8 (32 * t + 16) z s₂ s₃) (p₄ : Put 8 (32 * t + 24) w s₃ new)
-      (ux : Under (over .low) (fore .keep) (back .keep) x) (uy : Under (over .high) (fore .keep) (back .keep) y)
-      (uz : Under (over .low) (fore .flip) (back .flip) z) (uw : Under (over .high) (fore .flip) (back .flip) w) where
+      (ux : Under first (fore .keep) (back .keep) x) (uy : Under last (fore .keep) (back .keep) y)
+      (uz : Under first (fore .flip) (back .flip) z) (uw : Under last (fore .flip) (back .flip) w) where
     keep : (k : ℕ) → k < 16 → Dec (k < 8) → keepAt new t k ≡ wovenByte pattern bits t (fore .keep) (back .keep) k
     keep k h (yes l) =
         p₄ .outside (32 * t + k) (inl (omega arith)) ∙ p₃ .outside (32 * t + k) (inl (omega arith)) ∙ p₂ .outside (32 * t + k) (inl (omega arith))

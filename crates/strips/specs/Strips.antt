@@ -15,7 +15,6 @@ use Rattle.raster.proofs.BitLaws.{differs}
 use Rattle.strips.specs.Stretches.{across}
 use Rattle.strips.specs.declared.inks.Ink.{Ink}
 use Rattle.strips.specs.declared.inks.Mix.{Mix}
-use Rattle.strips.specs.declared.patterns.Over.{Over}
 
 -- (old & keep) ^ flip
 abbrev pub mixed : ℕ → ℕ → ℕ → ℕ
@@ -155,7 +154,10 @@ Reversed x r = (j : ℕ) → j < 16 → bit r j ≡ bit x (15 - j)
 abbrev pub Spread : ℕ → ℕ → ℕ → Type 0
 Spread bits x r = (r < 2 ^ (8 * bits)) × ((i : ℕ) → i < 8 * bits → bit r i ≡ bit x (7 - across 0 i / bits))
 
--- a pattern over the pixels of a strip, again and again: its first and its last eight bytes
-pub record OverOf (pattern bits : ℕ) (o : Over) : Type 0 where
-  pub low : (i : ℕ) → i < 64 → bit (o .low) i ≡ bit pattern (15 - across 0 i / bits % 16)
-  pub high : (i : ℕ) → i < 64 → bit (o .high) i ≡ bit pattern (15 - across 0 (64 + i) / bits % 16)
+-- a pattern over the pixels of a strip, again and again: its first eight bytes
+pub record FirstOver (pattern bits over : ℕ) : Type 0 where
+  pub first : (i : ℕ) → i < 64 → bit over i ≡ bit pattern (15 - across 0 i / bits % 16)
+
+-- .. its last eight bytes
+pub record LastOver (pattern bits over : ℕ) : Type 0 where
+  pub last : (i : ℕ) → i < 64 → bit over i ≡ bit pattern (15 - across 0 (64 + i) / bits % 16)

@@ -2,7 +2,7 @@
 ghost use mathlib.Core.Path.{_≡_};
 ghost use Prim.Native.Nat.{_≤_, _<_, _^_};
 ghost use Rattle.model.specs.Bitmaps.{Depth};
-ghost use Rattle.strips.specs.Strips.{RotatedLeft, Reversed, Spread, OverOf};
+ghost use Rattle.strips.specs.Strips.{RotatedLeft, Reversed, Spread, FirstOver, LastOver};
 ghost use Rattle.strips.specs.Strokes.{shown, patternOn};
 
 // A pattern rotated left by so many bits.
@@ -84,42 +84,40 @@ fn spread8(x: u64) -> u64
     (((y + 0x7F7F7F7F7F7F7F7F) >> 7) & 0x0101010101010101) * 255
 }
 
-// A pattern over the pixels of a strip: its first and its last eight bytes.
-pub struct Over {
-    pub low: u64,
-    pub high: u64,
-}
-
-// A pattern over the pixels of a strip, again and again.
-pub fn over_of(pattern: u16, bits: usize) -> Over
-    requires { ⌜ Depth bits ⌝ }
-    ensures { λ r. ⌜ OverOf pattern bits r ⌝ }
+// A pattern over the pixels of a strip, again and again: its first eight bytes, where a pixel has more than one bit.
+fn over_wide(pattern: u16, bits: usize) -> u64
+    requires { ⌜ Depth bits × (bits ≡ 1 → ⊥) ⌝ }
+    ensures { λ r. ⌜ FirstOver pattern bits r ⌝ }
 {
     let high = (pattern / 256) as u64;
     let low = (pattern % 256) as u64;
     if bits == 8 {
-        return Over {
-            low: spread8(high),
-            high: spread8(low),
-        };
+        return spread8(high);
     }
     if bits == 4 {
-        let four = spread4(high) + (spread4(low) << 32);
-        return Over {
-            low: four,
-            high: four,
-        };
+        return spread4(high) + (spread4(low) << 32);
     }
-    if bits == 2 {
-        let two = (spread2(high) + (spread2(low) << 16)) * 0x100000001;
-        return Over {
-            low: two,
-            high: two,
-        };
+    (spread2(high) + (spread2(low) << 16)) * 0x100000001
+}
+
+// A pattern over the pixels of a strip, again and again: its first eight bytes.
+pub fn over_first(pattern: u16, bits: usize) -> u64
+    requires { ⌜ Depth bits ⌝ }
+    ensures { λ r. ⌜ FirstOver pattern bits r ⌝ }
+{
+    if bits == 1 {
+        return (pattern as u64) * 0x0001000100010001;
     }
-    let one = (pattern as u64) * 0x0001000100010001;
-    Over {
-        low: one,
-        high: one,
+    over_wide(pattern, bits)
+}
+
+// .. its last eight bytes, where these are the first.
+pub fn over_last(pattern: u16, bits: usize, first: u64) -> u64
+    requires { ⌜ Depth bits × FirstOver pattern bits first ⌝ }
+    ensures { λ r. ⌜ LastOver pattern bits r ⌝ }
+{
+    if bits == 8 {
+        return spread8((pattern % 256) as u64);
     }
+    first
 }

@@ -9,7 +9,8 @@ ghost use Rattle.strips.specs.Strips.{Fourfold, Under, Put, Wove, Woven}
 use crate::inks::Ink;
 use crate::inks::back_of;
 use crate::inks::fore_of;
-use crate::patterns::over_of;
+use crate::patterns::over_first;
+use crate::patterns::over_last;
 use crate::patterns::rotate_left;
 use model::Pen;
 use raster::Truth;
@@ -47,11 +48,13 @@ fn weave(strips: &mut [u8], fore: Ink, back: Ink, pattern: u16, bits: usize, t: 
     requires { ⌜ (length (now strips) ≡ 514) × Depth bits × (t < 16) ⌝ }
     ensures { λ _. ⌜ Wove fore back pattern bits t (now (strips .entry)) (now (strips .exit)) ⌝ }
 {
-    let over = over_of(rotate_left(pattern, t), bits);
-    put(strips, 32 * t, under(over.low, fore.keep, back.keep));
-    put(strips, 32 * t + 8, under(over.high, fore.keep, back.keep));
-    put(strips, 32 * t + 16, under(over.low, fore.flip, back.flip));
-    put(strips, 32 * t + 24, under(over.high, fore.flip, back.flip));
+    let turned = rotate_left(pattern, t);
+    let first = over_first(turned, bits);
+    let last = over_last(turned, bits, first);
+    put(strips, 32 * t, under(first, fore.keep, back.keep));
+    put(strips, 32 * t + 8, under(last, fore.keep, back.keep));
+    put(strips, 32 * t + 16, under(first, fore.flip, back.flip));
+    put(strips, 32 * t + 24, under(last, fore.flip, back.flip));
 }
 
 // How many pixels a word has.

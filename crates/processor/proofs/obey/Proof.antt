@@ -6,9 +6,9 @@ use Rattle.processor.proofs.ObeyLaws.{obeyed-fault, obeyed-done}
 use Rattle.processor.proofs.obey.Statement.{statement}
 use Rattle.processor.proofs.obey.Tie as tie
 
-fault-of-requires : tie.Need-fault-of-requires
-fault-of-requires c κs =
-    let start = c .before .before .before .before in
+fault-in-requires : tie.Need-fault-in-requires
+fault-in-requires c κs =
+    let start = c .before .before .before in
     (record { screen = _; placed = start .pre .0 .placed; rule = start .pre .0 .good .rule; font = start .pre .0 .good .text .font }, start .pre .1)
 
 returns : tie.Need-returns
@@ -16,7 +16,7 @@ returns c =
     let checked = c .before .before .before in
     rw (c .finish-with .ensures)
     (record {
-      leaves = obeyed-fault _ _ _ _ _ _ _ _ _ (checked .fault-of .ensures) (c .before .before .if1 .taken) (c .before .faulted .ensures);
+      leaves = obeyed-fault _ _ _ _ _ _ _ _ _ (checked .fault-in .ensures) (c .before .before .if1 .taken) (c .before .faulted .ensures);
       one = omega arith;
       few = omega arith;
     })
@@ -24,8 +24,8 @@ returns c =
 perform-requires : tie.Need-perform-requires
 perform-requires c κs =
     let checked = c .before .before .before in
-    let start = checked .before .before .before .before .before in
-    record { sound = start .pre .0; clear = sym (checked .fault-of .ensures) ∙ c .before .before .if1 .left }
+    let start = checked .before .before .before .before in
+    record { sound = start .pre .0; clear = sym (checked .fault-in .ensures) ∙ c .before .before .if1 .left }
 
 returns-2 : tie.Need-returns-2
 returns-2 c =
@@ -33,7 +33,7 @@ returns-2 c =
     let checked = d .before .before .before .before in
     rw (c .finish-with2 .ensures)
     (record {
-      leaves = d .perform .ensures .leaves ∙ obeyed-done _ _ _ _ _ _ _ (sym (checked .fault-of .ensures) ∙ d .before .before .before .if1 .left);
+      leaves = d .perform .ensures .leaves ∙ obeyed-done _ _ _ _ _ _ _ (sym (checked .fault-in .ensures) ∙ d .before .before .before .if1 .left);
       one = omega arith;
       few = omega (arith, d .perform .ensures .few);
     })
@@ -41,5 +41,5 @@ returns-2 c =
 pub obey-spec : {M : Type 1} → statement M
 obey-spec =
     tie.close
-    (tie.spec fault-of-requires (λ c κs. search needs) (λ c κs. search needs) (λ c. search needs) returns perform-requires
+    (tie.spec fault-in-requires (λ c κs. search needs) (λ c κs. search needs) (λ c. search needs) returns perform-requires
     (λ c κs. search needs) (λ c. search needs) (λ c. search needs) returns-2)

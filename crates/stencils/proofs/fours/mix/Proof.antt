@@ -4,22 +4,12 @@ use Rattle.stencils.proofs.StencilLaws.{put-mixed}
 use Rattle.stencils.proofs.fours.mix.Statement.{statement}
 use Rattle.stencils.proofs.fours.mix.Tie as tie
 
-returns-2 : tie.Need-returns-2
-returns-2 c =
+returns : tie.Need-returns
+returns c =
     let p = c .before .before in
     let e = p .before .before .before .before in
-    let a = e .before .before .before .before .args in
+    let a = e .before .before .before .args in
     put-mixed (a .at) (a .ink) (a .cover) (e .eight .result) (a .buf .now) _ (e .eight .ensures) (p .put .ensures)
 
 pub mix-spec : {M : Type 1} → statement M
-mix-spec =
-    tie.close
-    (tie.spec
-    (λ c. search needs)
-    (λ c κs. search needs)
-    (λ c. search needs)
-    (λ c. search needs)
-    (λ c κs. search needs)
-    (λ c κs. search needs)
-    (λ c. search needs)
-    returns-2)
+mix-spec = tie.close (tie.spec (λ c κs. search needs) (λ c κs. search needs) (λ c. search needs) returns)

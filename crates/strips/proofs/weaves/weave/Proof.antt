@@ -7,8 +7,11 @@ use Rattle.strips.proofs.weaves.weave.Tie as tie
 rotate-left-requires : tie.Need-rotate-left-requires
 rotate-left-requires c κs = search needs
 
-over-of-requires : tie.Need-over-of-requires
-over-of-requires c κs = search needs
+over-first-requires : tie.Need-over-first-requires
+over-first-requires c κs = search needs
+
+over-last-requires : tie.Need-over-last-requires
+over-last-requires c κs = search needs
 
 mul-put : tie.Need-mul-put
 mul-put c = search needs
@@ -68,10 +71,12 @@ returns c =
     let u₂ = p₂ .before in
     let p₁ = u₂ .before .before .before .before in
     let u₁ = p₁ .before in
-    let o = u₁ .before .before in
-    let a = o .before .before .before .args in
-    wove-is (a .fore) (a .back) (a .pattern) (a .bits) (a .t) (o .before .rotate-left .result) (o .over-of .result)
-    (o .before .rotate-left .ensures) (o .over-of .ensures)
+    let l = u₁ .before .before in
+    let f = l .before in
+    let r = f .before in
+    let a = r .before .before .args in
+    wove-is (a .fore) (a .back) (a .pattern) (a .bits) (a .t) (r .rotate-left .result) (f .over-first .result) (l .over-last .result)
+    (r .rotate-left .ensures) (f .over-first .ensures) (l .over-last .ensures)
     (u₁ .under .result) (u₂ .under2 .result) (u₃ .under3 .result) (u₄ .under4 .result) _ _ _ _ _
     (p₁ .put .ensures) (p₂ .put2 .ensures) (p₃ .put3 .ensures) (p₄ .put4 .ensures)
     (u₁ .under .ensures) (u₂ .under2 .ensures) (u₃ .under3 .ensures) (u₄ .under4 .ensures)
@@ -81,7 +86,8 @@ weave-spec =
     tie.close
     (tie.spec
     rotate-left-requires
-    over-of-requires
+    over-first-requires
+    over-last-requires
     mul-put
     under-requires
     put-requires

@@ -1,0 +1,3 @@
+-- Laws of grids.
+pub mod GridLaws
+pub mod TransposeLaws
