@@ -7,24 +7,25 @@ ghost use Rattle.raster.specs.Operations.{truthOf, muxed, chosen, bitFie
 // A truth table, each of its four bits spread over a byte: A, B, C and D of its code.
 pub struct Truth(pub u8, pub u8, pub u8, pub u8);
 
-// The sixteen operations, by code.
-const TRUTHS: [Truth; 16] = [
-    Truth(0, 0, 0, 0),
-    Truth(0, 0, 0, 255),
-    Truth(0, 0, 255, 0),
-    Truth(0, 0, 255, 255),
-    Truth(0, 255, 0, 0),
-    Truth(0, 255, 0, 255),
-    Truth(0, 255, 255, 0),
-    Truth(0, 255, 255, 255),
-    Truth(255, 0, 0, 0),
-    Truth(255, 0, 0, 255),
-    Truth(255, 0, 255, 0),
-    Truth(255, 0, 255, 255),
-    Truth(255, 255, 0, 0),
-    Truth(255, 255, 0, 255),
-    Truth(255, 255, 255, 0),
-    Truth(255, 255, 255, 255),
+// The truth tables of the sixteen operations, by code: four bytes each, the first lowest. A word for each is what the
+// machine then reads at once.
+const TRUTHS: [u32; 16] = [
+    0x00000000,
+    0xFF000000,
+    0x00FF0000,
+    0xFFFF0000,
+    0x0000FF00,
+    0xFF00FF00,
+    0x00FFFF00,
+    0xFFFFFF00,
+    0x000000FF,
+    0xFF0000FF,
+    0x00FF00FF,
+    0xFFFF00FF,
+    0x0000FFFF,
+    0xFF00FFFF,
+    0x00FFFFFF,
+    0xFFFFFFFF,
 ];
 
 // The truth table of a code.
@@ -33,7 +34,13 @@ pub fn truth_of(code: u8) -> Truth
     ensures { λ r. ⌜ r ≡ truthOf code ⌝ }
 {
     let row = code as usize;
-    TRUTHS[row]
+    let word = TRUTHS[row];
+    Truth(
+        (word % 256) as u8,
+        (word / 256 % 256) as u8,
+        (word / 65536 % 256) as u8,
+        (word / 16777216 % 256) as u8,
+    )
 }
 
 // Each bit is y's where m's is 1, else x's.
