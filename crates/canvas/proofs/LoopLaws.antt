@@ -40,16 +40,6 @@ module _ {t : Target} {dots : ℕ → List Dot} (c₀ : Canvas) {c : Canvas} {k 
   pub painting-done : k ≡ n → Painted t (dots n) c₀ c
   painting-done e = subst (λ (m : ℕ). Painted t (dots m) c₀ c) e (p .drawn)
 
-  painting-agree : Ready t (length (c₀ .screen)) (length (c₀ .store)) → Agree t (c₀ .store) (c .store)
-  painting-agree r =
-      subst (λ (e : Canvas). Agree t (c₀ .store) (e .store)) (sym (p .drawn))
-      (agree-painted t (ready-laid r) (dots k) c₀ (c₀ .store) (agree-refl t (c₀ .store)))
-
-  -- a word in reach reads as it did at entry
-  pub painting-word : {at size : ℕ} → Ready t (length (c₀ .screen)) (length (c₀ .store)) → Reach t (length (c₀ .store)) at size
-      → (j : ℕ) → at ≤ j → j + 1 < at + size → wordAt (c .store) j ≡ wordAt (c₀ .store) j
-  painting-word h r j lo hi = agree-word (painting-agree h) r j lo hi
-
 -- one dot more
 pub painting-dot : {t : Target} (f : ℕ → Dot) (c₀ : Canvas) {c c′ : Canvas} {d : Dot} {k n : ℕ}
     → Painting t (λ k. listed 0 k f) c₀ c k n → k < n → d ≡ f k → c′ ≡ painted t d c

@@ -2,14 +2,14 @@
 use mathlib.Core.Path.{_≡_, refl, sym, ap, _∙_}
 use mathlib.Core.Logic.{_≢_, _⊎_, inr}
 use mathlib.Core.Bool.{Bool, true, false, cond}
-use mathlib.Core.List.{List, []}
+use mathlib.Core.List.{List}
 use Prim.Native.Nat.{ℕ, zero, suc, _+_, _<_}
 use native.Mathlib.Numerals.{add-one}
 use native.Mathlib.Omega.{arith}
 use lib.IntN.{ℤ, pos, negsuc}
 use lib.ListN.{length}
 use Rattle.model.specs.Ranges.{listed, joined}
-use Rattle.model.specs.Coordinates.{between, index}
+use Rattle.model.specs.Coordinates.{index}
 use Rattle.model.specs.Bitmaps.{Fits}
 use Rattle.model.specs.declared.Clip.{Clip}
 use Rattle.model.specs.declared.Surface.{Surface}
@@ -20,7 +20,7 @@ use Rattle.raster.proofs.ChangeLaws.{change-comm}
 use Rattle.canvas.specs.declared.Target.{Target}
 use Rattle.canvas.specs.Canvas.{Canvas, canvas, changedUnless, counted, hit, painted, paintedAll}
 use Rattle.canvas.proofs.BufferLaws.{buffer-length}
-use Rattle.canvas.proofs.CanvasLaws.{SameLengths, painted-lengths, paintedAll-lengths, paintedAll-none, paintedAll-next, paintedAll-joined}
+use Rattle.canvas.proofs.CanvasLaws.{SameLengths, paintedAll-lengths, paintedAll-none, paintedAll-next, paintedAll-joined}
 
 -- ## Two dots
 
@@ -83,9 +83,6 @@ module _ (t : Target) where
     long = rw (buffer-length (t .area .onscreen) (e .screen) (e .store), s .screen, s .store, ← (buffer-length (t .area .onscreen) (c .screen) (c .store)))
         (f .long);
   }
-
-  laid-painted : (d : Dot) (c : Canvas) → Laid t c → Laid t (painted t d c)
-  laid-painted d c = laid-same c (painted t d c) (painted-lengths t d c)
 
   laid-all : (ds : List Dot) (c : Canvas) → Laid t c → Laid t (paintedAll t ds c)
   laid-all ds c = laid-same c (paintedAll t ds c) (paintedAll-lengths t ds c)

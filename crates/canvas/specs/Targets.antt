@@ -33,6 +33,7 @@ pub record Ready (t : Target) (screen store : ℕ) : Type 0 where
       t .area .surface .words
   pub small : t .area .surface .left + t .area .surface .width ≤ 65536
   pub long : rowsEnd (t .area .surface) ≤ cond (t .area .onscreen) screen store
+  -- "width and height 1 to 4,096 pixels" of the screen, "a store .. above 2,097,152 bytes" (9): far below this
   pub near : rowsEnd (t .area .surface) ≤ 2 ^ 32
   pub east : t .clip .xmax < t .area .surface .width
   pub south : t .clip .ymax < t .area .surface .height

@@ -1,6 +1,6 @@
 -- Cells as dots: a rotation's course leads each cell where the paper says, so that a descriptor's rows are its character's dots. A grid has the same
 -- dots, in another order where rows go along y; and how many dots there are.
-use mathlib.Core.Path.{_≡_, refl, sym, ap, ap₂, _∙_}
+use mathlib.Core.Path.{_≡_, sym, ap, ap₂, _∙_}
 use mathlib.Core.Logic.{_≢_}
 use mathlib.Core.Bool.{Bool, true, false, cond}
 use mathlib.Core.List.{List}
@@ -86,7 +86,8 @@ module _ (rotation : ℕ) (p : Point) (transparent : Bool) where
 
 pub cells-length : (pen : Pen) (s : CellStyle) (store : List ℕ) (a head : ℕ) → length (cells pen s store a head) ≤ heightOf head * mostColumns
 cells-length pen s store a head =
-    joined-length 0 (heightOf head) mostColumns _ (λ j. omega (arith, listed-length 0 (widthOf head) (λ i. storedDot pen s (widthOf head) (wordAt store (a + 2 + 2 * j)) i j)))
+    joined-length 0 (heightOf head) mostColumns _
+    (λ j. omega (arith, listed-length 0 (widthOf head) (λ i. storedDot pen s (widthOf head) (wordAt store (a + 2 + 2 * j)) i j)))
 
 pub rows-length : (pen : Pen) (s : CellStyle) (g : Grid) → g .width ≤ mostColumns → (n : ℕ) → length (rowsFrom pen s g 0 n) ≤ n * mostColumns
 rows-length pen s g w n = joined-length 0 n mostColumns _ (λ j. omega (arith, listed-length 0 (g .width) (cellDot pen s (gridRow g j))))

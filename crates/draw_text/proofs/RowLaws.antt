@@ -4,7 +4,7 @@ use mathlib.Core.Path.{_≡_, refl, sym, ap, ap₂, subst, _∙_}
 use mathlib.Core.Logic.{_⊎_, inl, inr}
 use mathlib.Core.Bool.{Bool, true, false, cond, _&&_}
 use mathlib.Core.List.{List, [], _∷_, _++_, append-assoc}
-use Prim.Native.Nat.{ℕ, zero, suc, _+_, _-_, _*_, _/_, _%_, _^_, _≤_, _<_}
+use Prim.Native.Nat.{ℕ, zero, suc, _+_, _-_, _*_, _%_, _^_, _≤_, _<_}
 use native.Mathlib.Omega.{arith}
 use native.Mathlib.Decide.{decLt}
 use native.Mathlib.Nat.{add-assoc, zero-add, mul-comm, mul-le-mul-left, mul-le-mul-right}
@@ -19,7 +19,7 @@ use Rattle.model.specs.Dots.{Dot, dot, something, lies, visible, hits, keep, ch
 use Rattle.model.specs.declared.Clip.{Clip}
 use Rattle.model.specs.declared.Pen.{Pen}
 use Rattle.model.specs.declared.Surface.{Surface}
-use Rattle.model.proofs.Decisions.{split, holds, and-false, and-left, cond-true, cond-false, cond-ind}
+use Rattle.model.proofs.Decisions.{split, holds, and-false, and-left, cond-ind}
 use Rattle.model.proofs.DotLaws.{lies-clip, listed-cong}
 use Rattle.model.proofs.PlaceLaws.{depth-bounds}
 use Rattle.coordinates.specs.Offsets.{directed, unbiased, Between}
@@ -62,7 +62,8 @@ pen-changes t transparent cells [] = refl
 pen-changes t transparent cells (d ∷ ds) =
     ap (keep (visible (t .area .surface) (t .clip) d) (changeOf (t .area .surface) (t .pen) d)) (pen-changes t transparent cells ds)
 
-source-same : (t : Target) (cells : ℕ) (transparent on : Bool) → penSource (t .pen) transparent on ≡ penSource (cellTarget t transparent cells .pen) transparent on
+source-same : (t : Target) (cells : ℕ) (transparent on : Bool)
+    → penSource (t .pen) transparent on ≡ penSource (cellTarget t transparent cells .pen) transparent on
 source-same t cells true true = refl
 source-same t cells true false = refl
 source-same t cells false true = refl
@@ -222,7 +223,8 @@ rows-cut t f n e a b dark c =
     let y : n - e .first ≡ e .second - e .first + (n - e .second) = omega arith in
     sym (
     ap (λ (k : ℕ). paintedAll t (joined 0 k f) c) x
-    ∙ ap (λ (l : List Dot). paintedAll t l c) (joined-split (e .first) 0 (n - e .first) f ∙ ap (λ (j : ℕ). joined 0 (e .first) f ++ joined j (n - e .first) f) (zero-add (e .first)))
+    ∙ ap (λ (l : List Dot). paintedAll t l c) (joined-split (e .first) 0 (n - e .first) f
+    ∙ ap (λ (j : ℕ). joined 0 (e .first) f ++ joined j (n - e .first) f) (zero-add (e .first)))
     ∙ paintedAll-append t (joined 0 (e .first) f) (joined (e .first) (n - e .first) f) c
     ∙ ap (paintedAll t (joined (e .first) (n - e .first) f)) (rows-none t f (e .first) 0 (λ j l h. dark j (omega arith) (inl (omega arith))) c)
     ∙ ap (λ (k : ℕ). paintedAll t (joined (e .first) k f) c) y

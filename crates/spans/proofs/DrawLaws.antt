@@ -371,14 +371,6 @@ module _ (t : Target) (s : Span) (e : Edges) (screen store : List ℕ) (r : Read
       through-changes (t .area .surface) (t .clip) s e (r .east) (r .south) edges some (t .pen) met m (f .stencil) (f .ones) (f .zeros) (f .index) fits bo bn
       (rw (row-is (t .area .surface) (bufferOf t screen store) (leftmostOf s e) (s .y - 65536) (e .second - e .first) in-row) at p)
 
-  -- its words lie in the buffer
-  pub part-room : {r′ : Stencil} → StencilFor t s e r′
-      → t .area .surface .base + 2 * (t .area .surface .words * (t .area .surface .top + (s .y - 65536))) + 2 * (r′ .word + (r′ .end + 15) / 16)
-      ≤ cond (t .area .onscreen) (length screen) (length store)
-  part-room {r′} f =
-      let z = part-sized (leftmostOf s e) refl in
-      omega (arith, z .room, f .stencil .to)
-
 pub screen-fits : {t : Target} (screen store : List ℕ) → Ready t (length screen) (length store) → t .area .onscreen ≡ true → Fits (t .area .surface) screen
 screen-fits {t} screen store r o = subst (λ (l : List ℕ). Fits (t .area .surface) l) (cond-true screen store o) (ready-fits screen store r)
 

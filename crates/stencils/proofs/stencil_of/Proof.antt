@@ -1,5 +1,5 @@
 -- `stencils::stencil_of` meets its contract.
-use mathlib.Core.Path.{refl, _∙_, sym}
+use mathlib.Core.Path.{refl}
 use native.Mathlib.Omega.{arith}
 use borrow.Author.Needs.{needs}
 use Rattle.stencils.proofs.StencilLaws.{wide-repeated}

@@ -19,7 +19,8 @@ module _ (e : tie.After-either) where
       let b = entry e in
       let a = b .args in
       let l = lowest-in (a .style .course .heading .up) (a .f .first) (a .f .second) (b .pre .1 .some) in
-      row-in (a .t) (a .style) (a .plan) (b .pre .0) (b .pre .1) (e .either .result) (omega (arith, e .either .ensures, l .0)) (omega (arith, e .either .ensures, l .1))
+      row-in (a .t) (a .style) (a .plan) (b .pre .0) (b .pre .1) (e .either .result) (omega (arith, e .either .ensures, l .0))
+      (omega (arith, e .either .ensures, l .1))
 
 row-byte-requires : tie.Need-row-byte-requires
 row-byte-requires c κs = inside c

@@ -1,6 +1,5 @@
 -- `draw_text::rows::row_byte` meets its contract: the row lies in the bitmap, so that all numbers are small.
 use native.Mathlib.Omega.{arith}
-use borrow.Author.Needs.{needs}
 use Rattle.draw_text.proofs.RowLaws.{RowSized, row-sized, row-start}
 use Rattle.draw_text.proofs.rows.row_byte.Statement.{statement}
 use Rattle.draw_text.proofs.rows.row_byte.Tie as tie

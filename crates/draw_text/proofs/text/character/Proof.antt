@@ -26,7 +26,8 @@ grid-of-requires c κs =
     let w = c .before .before .before in
     let b = entry w in
     let p = b .pre .0 in
-    let l : b .args .at + 1 + 2 * heightOf (w .word .result) < length (b .args .store .now) = p .reach .inside _ (omega arith) (omega (arith, w .word .ensures)) in
+    let l : b .args .at + 1 + 2 * heightOf (w .word .result) < length (b .args .store .now)
+    = p .reach .inside _ (omega arith) (omega (arith, w .word .ensures)) in
     omega (arith, l)
 
 draw-grid-requires : tie.Need-draw-grid-requires
@@ -48,8 +49,8 @@ returns c =
     record {
       dots =
           d .draw-grid .ensures
-          ∙ grid-painted (a .t) (s .style-of .result) (a .screen .now) (a .store .now) (a .at) (w .word .result) (a .d .hits) (g .grid-of .result) (e .pre .0 .target)
-          (g .grid-of .ensures)
+          ∙ grid-painted (a .t) (s .style-of .result) (a .screen .now) (a .store .now) (a .at) (w .word .result) (a .d .hits) (g .grid-of .result)
+          (e .pre .0 .target) (g .grid-of .ensures)
           ∙ ap (λ (ds : List Dot). paintedAll (a .t) ds (canvas (a .screen .now) (a .store .now) (a .d .hits)))
           (cells-glyphDots (a .text .rotation) (a .d .position) (a .transparent) (a .t .pen) (a .store .now) (a .at) (s .style-of .ensures) (w .word .ensures));
       position = p .pass .ensures ∙ ap (λ (h : ℕ). passed (a .text) h (a .d .position)) (w .word .ensures);

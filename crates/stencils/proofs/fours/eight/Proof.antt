@@ -1,5 +1,5 @@
 -- `stencils::fours::eight` meets its contract: the bits of the number are those of the bytes.
-use mathlib.Core.Path.{ap₂, _∙_}
+use mathlib.Core.Path.{ap₂}
 use Prim.Native.Nat.{ℕ, _+_, _*_}
 use borrow.Author.Needs.{needs}
 use Rattle.stencils.proofs.StencilLaws.{eight-is}
