@@ -54,7 +54,7 @@ pub fn opcode_of(op: u8) -> OpcodeEntry
 }
 
 // Parameter word i, from 0, of the command at an address.
-fn parameter(store: &[u8], at: usize, i: usize) -> u16
+pub fn parameter(store: &[u8], at: usize, i: usize) -> u16
     requires { ⌜ at + 2 + 2 * i + 2 ≤ length (now store) ⌝ }
     ensures { λ r. ⌜ r ≡ parameter (now (store .entry)) at i ⌝ }
 {

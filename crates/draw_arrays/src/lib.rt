@@ -10,6 +10,7 @@ ghost use Rattle.model.specs.Dots.{drawing};
 ghost use Rattle.model.specs.Lines.{lineDots, pairsAt, polyline, triplesAt, scanLines};
 ghost use Rattle.canvas.specs.Canvas.{canvas, countEnd, Drew, Painted, Reach};
 ghost use Rattle.canvas.specs.Targets.{Ready};
+ghost use Rattle.stamps.specs.Stamps.{StampsOf};
 ghost use Rattle.spans.specs.Spans.{Strung};
 ghost use Rattle.traces.specs.Slopes.{longestLine};
 ghost use Rattle.draw_lines.specs.Segments.{dotsOf, Traceable};
@@ -36,14 +37,21 @@ fn segment_at(store: &[u8], at: usize, first: usize, index: usize) -> Segment
 }
 
 // One segment of POLYLINE from the position, which goes to the segment's far end.
-fn leg(screen: &mut [u8], store: &mut [u8], t: Target, from: Drawn, s: Segment) -> Drawn
+fn leg(
+    screen: &mut [u8],
+    store: &mut [u8],
+    stamps: &[u8],
+    t: Target,
+    from: Drawn,
+    s: Segment,
+) -> Drawn
     requires { ⌜ Ready t (length (now screen)) (length (now store)) × Traceable s
-        × (from .hits + longestLine < countEnd) ⌝ }
+        × (from .hits + longestLine < countEnd) × StampsOf (t .pen) (t .area .surface .bits) (now stamps) ⌝ }
     ensures { λ d. ⌜ Drew t (drawing (dotsOf (t .pen) (from .position) s)
         (moved (from .position) (coord (s .dx)) (coord (s .dy))))
         (canvas (now (screen .entry)) (now (store .entry)) (from .hits)) d (now (screen .exit)) (now (store .exit)) ⌝ }
 {
-    let hits = draw_lines::draw_segment(screen, store, t, from.position, s, from.hits);
+    let hits = draw_lines::draw_segment(screen, store, stamps, t, from.position, s, from.hits);
     let position = coordinates::move_by(from.position, s.dx, s.dy);
     Drawn {
         position,
@@ -53,7 +61,7 @@ fn leg(screen: &mut [u8], store: &mut [u8], t: Target, from: Drawn, s: Segment) 
 }
 
 // POLYLINE by the n pairs at a byte of the store: the first is a whole line, and each other goes on from where the
-// one before ended, without its first pixel and with the next pattern index.
+// one before ended, without its first pixel and with the next pattern index. The stamps are worked out once.
 pub fn polyline(
     screen: &mut [u8],
     store: &mut [u8],
@@ -67,6 +75,7 @@ pub fn polyline(
     ensures { λ d. ⌜ Drew t (polyline (t .pen) from (pairsAt (now (store .entry)) array n))
         (canvas (now (screen .entry)) (now (store .entry)) 0) d (now (screen .exit)) (now (store .exit)) ⌝ }
 {
+    let stamps = traces::stamps_of(t);
     let mut d = Drawn {
         position: from,
         trap: false,
@@ -77,7 +86,7 @@ pub fn polyline(
     let mut k = 0;
     while k < n {
         let s = segment_at(store, array + 4 * k, first, index);
-        d = leg(screen, store, t, d, s);
+        d = leg(screen, store, &stamps, t, d, s);
         index += draw_lines::pixels_of(s);
         first = 1;
         k += 1;

@@ -12,6 +12,7 @@ ghost use Rattle.canvas.specs.Canvas.{canvas, Drew, Painted};
 ghost use Rattle.canvas.specs.Targets.{Ready};
 ghost use Rattle.draw_circles.specs.Sheets.{SheetReady, Round, Dabbed, circleOn};
 ghost use Rattle.draw_circles.specs.Eighths.{Further};
+ghost use Rattle.draw_circles.specs.Tables.{StampsFor};
 use canvas::Course;
 use canvas::Drawn;
 use canvas::Heading;
@@ -90,10 +91,17 @@ fn draw_centre(screen: &mut [u8], store: &mut [u8], t: Target, centre: Point) ->
     canvas::draw_dot(screen, store, t, course, o, source, 0)
 }
 
-// The circle of radius r about the centre: how many of its points are visible. Where its columns or its rows miss the
-// limits, none is.
-fn draw_circle(screen: &mut [u8], store: &mut [u8], t: Target, centre: Point, r: usize) -> usize
-    requires { ⌜ Ready t (length (now screen)) (length (now store)) × (r ≤ 32768) ⌝ }
+// The circle of radius r about the centre, by the stamps of the target: how many of its points are visible. Where its
+// columns or its rows miss the limits, none is.
+pub fn draw_circle(
+    screen: &mut [u8],
+    store: &mut [u8],
+    stamps: &[u8],
+    t: Target,
+    centre: Point,
+    r: usize,
+) -> usize
+    requires { ⌜ Ready t (length (now screen)) (length (now store)) × (r ≤ 32768) × StampsFor t (now stamps) ⌝ }
     ensures { λ hits. ⌜ Painted t (circle (t .pen) centre r .dots) (canvas (now (screen .entry)) (now (store .entry)) 0)
         (canvas (now (screen .exit)) (now (store .exit)) hits) ⌝ }
 {
@@ -117,11 +125,10 @@ fn draw_circle(screen: &mut [u8], store: &mut [u8], t: Target, centre: Point, r:
         centre,
         inside: columns.all & rows.all,
     };
-    let stamps = stamps_for(t);
     if area.onscreen {
-        return ring(screen, &stamps, s, r);
+        return ring(screen, stamps, s, r);
     }
-    ring(store, &stamps, s, r)
+    ring(store, stamps, s, r)
 }
 
 // CIRCLE by its radius: the position stays.
@@ -131,7 +138,8 @@ pub fn circle(screen: &mut [u8], store: &mut [u8], t: Target, from: Point, radiu
         (canvas (now (screen .entry)) (now (store .entry)) 0) d (now (screen .exit)) (now (store .exit)) ⌝ }
 {
     let r = coordinates::magnitude(radius);
-    let hits = draw_circle(screen, store, t, from, r);
+    let stamps = stamps_for(t);
+    let hits = draw_circle(screen, store, &stamps, t, from, r);
     Drawn {
         position: from,
         trap: false,

@@ -36,7 +36,8 @@ pub fn line(screen: &mut [u8], store: &mut [u8], t: Target, from: Point, dx: u16
     ensures { λ d. ⌜ Drew t (line (t .pen) from (coord dx) (coord dy))
         (canvas (now (screen .entry)) (now (store .entry)) 0) d (now (screen .exit)) (now (store .exit)) ⌝ }
 {
-    let hits = draw_segment(screen, store, t, from, whole_line(dx, dy), 0);
+    let stamps = traces::stamps_of(t);
+    let hits = draw_segment(screen, store, &stamps, t, from, whole_line(dx, dy), 0);
     let position = coordinates::move_by(from, dx, dy);
     Drawn {
         position,

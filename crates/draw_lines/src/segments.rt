@@ -1,5 +1,6 @@
 // One segment of a line from a position, sloped or level. Every pixel of it takes its pattern index, drawn or not.
 ghost use mathlib.Core.Path.{_≡_};
+ghost use mathlib.Core.Bool.{true};
 ghost use Prim.Native.Nat.{_+_, _≤_, _<_};
 ghost use lib.IntN.{pos};
 ghost use lib.ListN.{length};
@@ -7,6 +8,7 @@ ghost use Rattle.model.specs.Coordinates.{coord, negative, place};
 ghost use Rattle.model.specs.Lines.{lineDots, pixelsFrom, segmentDots};
 ghost use Rattle.canvas.specs.Canvas.{canvas, countEnd, Painted};
 ghost use Rattle.canvas.specs.Targets.{Ready};
+ghost use Rattle.stamps.specs.Stamps.{StampsOf};
 ghost use Rattle.spans.specs.Spans.{Strung};
 ghost use Rattle.traces.specs.Slopes.{longestLine};
 ghost use Rattle.draw_lines.specs.Segments.{dotsOf, wholeLine, Traceable, AxesOf, LevelSpan, TraceOf};
@@ -69,8 +71,18 @@ pub fn axes_of(dx: u16, dy: u16) -> Axes
     }
 }
 
+// Whether a line by (dx,dy) is drawn as a span: it is horizontal, and not short.
+pub fn is_span(dx: u16, dy: u16) -> bool
+    ensures { λ r. ⌜ (r ≡ true → dy ≡ 0) ⌝ }
+{
+    if dy == 0 {
+        return coordinates::magnitude(dx) >= SHORTEST_SPAN;
+    }
+    false
+}
+
 // A segment from a position as a trace.
-fn trace_of(from: Point, s: Segment) -> Trace
+pub fn trace_of(from: Point, s: Segment) -> Trace
     requires { ⌜ Traceable s ⌝ }
     ensures { λ r. ⌜ TraceOf from s r ⌝ }
 {
@@ -145,24 +157,24 @@ pub fn lone_line(
     spans::draw_alone(screen, store, t, span, hits)
 }
 
-// A segment from a position: hits and how many of its pixels are visible.
+// A segment from a position, by the stamps of its pen: hits and how many of its pixels are visible.
 pub fn draw_segment(
     screen: &mut [u8],
     store: &mut [u8],
+    stamps: &[u8],
     t: Target,
     from: Point,
     s: Segment,
     hits: usize,
 ) -> usize
-    requires { ⌜ Ready t (length (now screen)) (length (now store)) × Traceable s × (hits + longestLine < countEnd) ⌝ }
+    requires { ⌜ Ready t (length (now screen)) (length (now store)) × Traceable s × (hits + longestLine < countEnd)
+        × StampsOf (t .pen) (t .area .surface .bits) (now stamps) ⌝ }
     ensures { λ r. ⌜ Painted t (dotsOf (t .pen) from s) (canvas (now (screen .entry)) (now (store .entry)) hits)
         (canvas (now (screen .exit)) (now (store .exit)) r) ⌝ }
 {
-    if s.dy == 0 {
-        if coordinates::magnitude(s.dx) >= SHORTEST_SPAN {
-            return lone_line(screen, store, t, from, s, hits);
-        }
+    if is_span(s.dx, s.dy) {
+        return lone_line(screen, store, t, from, s, hits);
     }
     let trace = trace_of(from, s);
-    traces::draw_trace(screen, store, t, trace, hits)
+    traces::draw_trace(screen, store, stamps, t, trace, hits)
 }

@@ -19,7 +19,7 @@ use canvas::Target;
 use model::Point;
 use spans::Span;
 use traces::Trace;
-use traces::draw_trace;
+use traces::lone_trace;
 use traces::slopes::Axes;
 
 // The length from which an outline's level sides are drawn as spans: shorter ones are drawn sooner dot by dot
@@ -206,7 +206,7 @@ fn draw_right(screen: &mut [u8], store: &mut [u8], t: Target, o: Outline, hits: 
         return dotted(screen, store, t, o, o.a + 1, o.b, hits);
     }
     let side = right_side(o);
-    draw_trace(screen, store, t, side, hits)
+    lone_trace(screen, store, t, side, hits)
 }
 
 // The third side drawn, as a span if it is long: hits and how many of its pixels are visible.
@@ -233,7 +233,7 @@ fn draw_left(screen: &mut [u8], store: &mut [u8], t: Target, o: Outline, hits: u
         return dotted(screen, store, t, o, o.a + o.b + 1 + o.a, o.b - 1, hits);
     }
     let side = left_side(o);
-    draw_trace(screen, store, t, side, hits)
+    lone_trace(screen, store, t, side, hits)
 }
 
 // The first two sides, to the corner across: how many of their pixels are visible.

@@ -2,3 +2,4 @@
 pub mod KeepLaws
 pub mod RunningLaws
 pub mod ObeyLaws
+pub mod AdvanceLaws

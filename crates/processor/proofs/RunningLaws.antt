@@ -4,7 +4,6 @@ use mathlib.Core.List.{List}
 use Prim.Native.Nat.{ℕ, suc, _+_, _*_, _^_, _≤_, _<_}
 use native.Mathlib.Nat.{add-zero}
 use native.Mathlib.Omega.{arith}
-use borrow.Author.Tests.{eq-eqb, ne-eqb}
 use lib.ListN.{length, getD}
 use Rattle.model.specs.declared.Geometry.{Geometry}
 use Rattle.model.specs.declared.Row.{Row}
@@ -15,10 +14,10 @@ use Rattle.model.specs.declared.Command.{Command}
 use Rattle.model.specs.declared.Decoded.{Decoded}
 use Rattle.model.specs.declared.Decoded.the-variants.{Do, End, Fault}
 use Rattle.model.specs.Commands.{decode}
-use Rattle.model.specs.Runs.{Finish, PaintFits, idle, addCounts, mostPixels, stepped, follow, runs}
-use Rattle.model.proofs.Decisions.{cond-true}
-use Rattle.model.proofs.RunLaws.{addCounts-zero, addCounts-twice, runs-idle}
+use Rattle.model.specs.Runs.{Finish, PaintFits, mostPixels, stepped, runs}
 use Rattle.perform.specs.Performing.{Sound, finish}
+use Rattle.batches.specs.Batches.{onward}
+use Rattle.batches.proofs.OnwardLaws.{onward-step, onward-idle}
 use Rattle.processor.specs.Obeying.{Runs, finishOf, stoppedOf}
 use Rattle.processor.specs.declared.Finished.{Finished}
 use Rattle.processor.proofs.KeepLaws.{step-good}
@@ -30,45 +29,14 @@ stopped-idle p End none e = omega arith
 stopped-idle p (Fault f) none e = omega arith
 stopped-idle p (Do c next) none e = none c next refl
 
--- what was done, and then nothing
-addCounts-idle : (m h : ℕ) (p : Pane) (s t : List ℕ) → addCounts m h (idle p s t) ≡ finish m h p s t
-addCounts-idle m h p s t = λ i. finish (add-zero m i) (add-zero h i) p s t
-
 module _ (g : Geometry) (r : Row) where
-  -- what a run of so many commands leaves, from what was done before
-  pub onward : ℕ → Finish → Finish
-  onward n f = follow (runs g r n) f
-
-  pub onward-none : (n : ℕ) (p : Pane) (s t : List ℕ) → onward n (finish 0 0 p s t) ≡ runs g r n p s t
-  unfolding onward follow
-  onward-none n p s t = addCounts-zero (runs g r n p s t)
-
-  -- a spent budget, or a pane that does not run, leaves all as it is
-  pub onward-zero : (f : Finish) → onward 0 f ≡ f
-  unfolding onward follow runs
-  onward-zero f = addCounts-idle (f .count) (f .paint) (f .pane) (f .screen) (f .store)
-
-  pub onward-idle : (n : ℕ) (f : Finish) → (f .pane .progress .status ≡ statusRunning → ⊥) → onward n f ≡ f
-  unfolding onward follow
-  onward-idle n f h =
-      ap (addCounts (f .count) (f .paint)) (runs-idle g r n (f .pane) (f .screen) (f .store) (ne-eqb (f .pane .progress .status) statusRunning h))
-      ∙ addCounts-idle (f .count) (f .paint) (f .pane) (f .screen) (f .store)
-
-  -- one step of a running pane, and then one command less
-  pub onward-step : (n m h : ℕ) (p : Pane) (s t : List ℕ) (k j : ℕ) (q : Pane) (s′ t′ : List ℕ) → p .progress .status ≡ statusRunning
-      → finish k j q s′ t′ ≡ stepped g r p s t → onward (suc n) (finish m h p s t) ≡ onward n (finish (m + k) (h + j) q s′ t′)
-  unfolding onward follow runs
-  onward-step n m h p s t k j q s′ t′ e f =
-      ap (addCounts m h) (cond-true _ _ (eq-eqb (p .progress .status) statusRunning e) ∙ ap (follow (runs g r n)) (sym f))
-      ∙ addCounts-twice m k h j (runs g r n q s′ t′)
-
   -- an end word, or a fault of the decoder, ends the run
   pub onward-stopped : (n m h : ℕ) (p q : Pane) (s t : List ℕ) (d : Decoded) → p .progress .status ≡ statusRunning
       → d ≡ decode (r .len) t (p .progress .pointer) → ((c : Command) (next : ℕ) → d ≡ Do c next → ⊥) → q ≡ stoppedOf p d
-      → onward (suc n) (finish m h p s t) ≡ finish m h q s t
+      → onward g r (suc n) (finish m h p s t) ≡ finish m h q s t
   onward-stopped n m h p q s t d e f none k =
-      onward-step n m h p s t 0 0 q s t e (stepped-stopped g r p s t d q f none k)
-      ∙ onward-idle n (finish (m + 0) (h + 0) q s t) (λ z. stopped-idle p d none (sym (ap (λ (x : Pane). x .progress .status) k) ∙ z))
+      onward-step g r n m h p s t 0 0 q s t e (stepped-stopped g r p s t d q f none k)
+      ∙ onward-idle g r n (finish (m + 0) (h + 0) q s t) (λ z. stopped-idle p d none (sym (ap (λ (x : Pane). x .progress .status) k) ∙ z))
       ∙ (λ i. finish (add-zero m i) (add-zero h i) q s t)
 
 -- what holds at the loop's head

@@ -1,12 +1,16 @@
 // The graphics processor: what stands at the pointer is decoded, checked and done; a run does so while the
 // status is 1 and budget is left.
 ghost use mathlib.Core.Path.{_≡_};
+ghost use Prim.Native.Nat.{max};
 ghost use lib.ListN.{length};
 ghost use Rattle.model.specs.Commands.{Addressed};
 ghost use Rattle.model.specs.Faults.{contextOf, faultOf};
+ghost use Rattle.batches.specs.Batches.{reached};
 ghost use Rattle.faults.specs.Checking.{Checkable};
 ghost use Rattle.perform.specs.Performing.{Sound};
-ghost use Rattle.processor.specs.Obeying.{Obeys, Runs, finishedWith, stoppedOf};
+ghost use Rattle.processor.specs.Obeying.{Advancing, Advances, Obeys, Runs, finishedWith, stoppedOf};
+use batches::Batch;
+use batches::batch_from;
 use faults::fault_of;
 use faults::may_fault;
 use model::Command;
@@ -65,6 +69,45 @@ fn obey(screen: &mut [u8], store: &mut [u8], f: Frame, p: Pane, c: Command, next
     finish_with(d.pane, 1, d.paint)
 }
 
+// A pane after a batch.
+fn after_batch(p: Pane, b: Batch) -> Finished
+    ensures { λ s. ⌜ s ≡ finishedWith (reached p (b .pointer) (b .position)) (b .count) (b .paint) ⌝ }
+{
+    let position = b.position;
+    let mut pane = p;
+    pane.position = position;
+    pane.progress.pointer = b.pointer;
+    finish_with(pane, b.count, b.paint)
+}
+
+// A batch from the pointer on, and where there is none the command there, tried by itself.
+fn advance(
+    screen: &mut [u8],
+    store: &mut [u8],
+    f: Frame,
+    p: Pane,
+    c: Command,
+    next: u32,
+    budget: u32,
+) -> Finished
+    requires { ⌜ Advancing (f .geometry) (f .row) p (length (now screen)) (now store) c next budget ⌝ }
+    ensures { λ s. ⌜ Advances (f .geometry) (f .row) budget p (now (screen .entry)) (now (store .entry))
+        s (now (screen .exit)) (now (store .exit)) ⌝ }
+{
+    let b = batch_from(screen, store, f, p, c, budget);
+    if 0 < b.count {
+        return after_batch(p, b);
+    }
+    obey(screen, store, f, p, c, next)
+}
+
+// The larger of two numbers.
+fn larger(a: u32, b: u32) -> u32
+    ensures { λ r. ⌜ r ≡ max a b ⌝ }
+{
+    if a < b { b } else { a }
+}
+
 // The record after an end word, or after a fault of the decoder.
 fn stopped(p: Pane, d: Decoded) -> Pane
     ensures { λ q. ⌜ q ≡ stoppedOf p d ⌝ }
@@ -96,11 +139,11 @@ pub fn run(screen: &mut [u8], store: &mut [u8], f: Frame, p: Pane, budget: u32) 
             let end = stopped(q, d);
             return finish_with(end, count, paint);
         };
-        let s = obey(screen, store, f, q, c, next);
+        let s = advance(screen, store, f, q, c, next, rest);
         q = s.pane;
         count += s.count;
         paint += s.paint;
-        rest -= 1;
+        rest -= larger(1, s.count);
     }
     finish_with(q, count, paint)
 }

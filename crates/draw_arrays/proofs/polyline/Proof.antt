@@ -18,7 +18,7 @@ use Rattle.draw_arrays.proofs.polyline.Statement.{statement}
 use Rattle.draw_arrays.proofs.polyline.Tie as tie
 
 abbrev Inv-loop : tie.InvT-loop
-Inv-loop screen₀ store₀ t array n d₀ first₀ index₀ k₀ screen store d first index k =
+Inv-loop screen₀ store₀ t array n stamps d₀ first₀ index₀ k₀ screen store d first index k =
     Underway t (polyline (t .pen) (d₀ .position) (pairsAt store₀ array n)) (segmentsLeft (t .pen) store₀ array n first index k (d .position))
     longestLine (canvas screen₀ store₀ 0) screen store d k n
     × (d .trap ≡ false)
@@ -27,11 +27,11 @@ Inv-loop screen₀ store₀ t array n d₀ first₀ index₀ k₀ screen store d
     × (index ≤ longestLine * k)
 
 abbrev μ-loop : tie.MeasureT-loop
-μ-loop screen₀ store₀ t array n d₀ first₀ index₀ k₀ screen store d first index k = n - k
+μ-loop screen₀ store₀ t array n stamps d₀ first₀ index₀ k₀ screen store d first index k = n - k
 
 -- the entry, from the loop's head, and the head, from the place where a pair is read
 abbrev entry : tie.At-loop Inv-loop μ-loop → tie.Start Inv-loop μ-loop
-entry l = l .before .before .before
+entry l = l .before .before .before .before
 
 abbrev head : tie.After-segment-at Inv-loop μ-loop → tie.At-loop Inv-loop μ-loop
 head r = r .before .before .before
@@ -46,7 +46,7 @@ traceable r =
 loop-holds : tie.Need-loop-holds Inv-loop μ-loop
 unfolding pairsAt polyline
 loop-holds c =
-    let s = c .before .before in
+    let s = c .before .before .before in
     let a = s .args in (
       items-first (λ q. segments (a .t .pen) q 0 0) _ (a .n) (a .t) (a .screen .now) (a .store .now) (a .from),
       refl,
@@ -60,14 +60,18 @@ add-segment-at c = omega (arith, entry (c .before .before) .good)
 
 leg-requires : tie.Need-leg-requires Inv-loop μ-loop
 leg-requires c κs =
-    let r = c .before .before in
-    let l = head r in
-    (underway-ready (l .loop .inv .0) (entry l .pre .0), traceable r, omega (arith, l .loop .inv .0 .few, l .loop .inv .0 .turn, entry l .pre .1))
+    let r = c .before .before .before in
+    let l = head r in (
+      underway-ready (l .loop .inv .0) (entry l .pre .0),
+      traceable r,
+      omega (arith, l .loop .inv .0 .few, l .loop .inv .0 .turn, entry l .pre .1),
+      l .before .stamps-of .ensures,
+    )
 
 loop-again : tie.Need-loop-again Inv-loop μ-loop
 loop-again c =
     let s = c .before .before .before .before .before in
-    let r = s .before .before .before in
+    let r = s .before .before .before .before in
     let g = r .before .before in
     let l = g .before in
     let a = entry l .args in
@@ -99,12 +103,14 @@ polyline-spec =
     (tie.spec
     Inv-loop
     μ-loop
+    (λ c κs. search needs)
     loop-holds
     (λ c. search needs)
     add-segment-at
     (λ c κs. search needs)
+    (λ c. search needs)
     leg-requires
-    (λ c κs. traceable (c .before .before .before .before .before .before .before))
+    (λ c κs. traceable (c .before .before .before .before .before .before .before .before))
     (λ c. omega (arith, c .before))
     (λ c. search needs)
     (λ c. search needs)

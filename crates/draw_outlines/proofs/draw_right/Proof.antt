@@ -10,7 +10,7 @@ returns-2 c =
     let d = c .before .before .before .before in
     let w = d .before .before .before in
     let a = w .before .before .before .before .before .args in
-    trace-painted (a .t) (a .o) (a .o .a + 1) (a .o .b) _ (w .right-side .ensures) (d .draw-trace .ensures)
+    trace-painted (a .t) (a .o) (a .o .a + 1) (a .o .b) _ (w .right-side .ensures) (d .lone-trace .ensures)
 
 pub draw-right-spec : {M : Type 1} → statement M
 draw-right-spec =

@@ -2,7 +2,7 @@
 -- budget left are at most the budget, and each command drew at most the most pixels. The measure is the budget left.
 use mathlib.Core.Path.{_≡_, refl, sym, ap, _∙_}
 use mathlib.Core.Logic.{_⊎_, ⊎-elim}
-use Prim.Native.Nat.{ℕ, suc, _-_}
+use Prim.Native.Nat.{ℕ, suc, max, _+_, _-_}
 use native.Mathlib.Omega.{arith}
 use borrow.Author.Needs.{needs}
 use denote.Enum.Declared.{tagOf}
@@ -11,13 +11,13 @@ use Rattle.model.specs.declared.Decoded.{Decoded}
 use Rattle.model.specs.declared.Decoded.the-variants.{Do}
 use Rattle.model.specs.Commands.{decode}
 use Rattle.model.specs.Numbers.{statusRunning}
-use Rattle.model.specs.Runs.{Finish, stepped, runs}
+use Rattle.model.specs.Runs.{Finish, runs}
 use Rattle.model.proofs.Decoded.{the-type}
 use Rattle.decoder.proofs.DecodeLaws.{decode-addressed}
 use Rattle.perform.specs.Performing.{finish}
-use Rattle.processor.specs.Obeying.{obeyed}
-use Rattle.processor.proofs.ObeyLaws.{stepped-do}
-use Rattle.processor.proofs.RunningLaws.{Running, onward, onward-none, onward-zero, onward-idle, onward-step, onward-stopped, sound-step, run-ends}
+use Rattle.batches.specs.Batches.{onward}
+use Rattle.batches.proofs.OnwardLaws.{onward-none, onward-zero, onward-idle, onward-more}
+use Rattle.processor.proofs.RunningLaws.{Running, onward-stopped, run-ends}
 use Rattle.processor.proofs.run.Statement.{statement}
 use Rattle.processor.proofs.run.Tie as tie
 
@@ -52,6 +52,10 @@ returns c =
     rw (c .finish-with .ensures)
     (run-ends (l .rest) (c .before .before .before .before .before .before .before .fits .budget .fits) (l .inv .spent) (l .inv .few)
     (sym (onward-idle _ _ (l .rest) (finish (l .count) (l .paint) (l .q) (l .screen) (l .store)) (c .before .if1 .taken)) ∙ l .inv .same))
+
+-- the entry, from the loop's head
+abbrev entry : tie.At-loop Inv-loop μ-loop → tie.Start Inv-loop μ-loop
+entry l = l .before .before .before
 
 -- ## What stands at the pointer
 
@@ -113,76 +117,72 @@ returns-2 c =
 
 -- ## A command
 
-obey-requires : tie.Need-obey-requires Inv-loop μ-loop
-obey-requires c κs =
+advance-requires : tie.Need-advance-requires Inv-loop μ-loop
+advance-requires c κs =
     let d = c .before .before .before .before .before in
     let l = head d .loop in
-    let command = c .before .before .before .d .given in (
-      l .inv .sound,
-      decode-addressed (start d .args .f .row .len) (l .store) (l .q .progress .pointer) _ (command .0 .1 .0) (l .inv .bytes) (sym (decoded d) ∙ command .1),
-    )
+    let command = c .before .before .before .d .given in
+    record {
+      sound = l .inv .sound;
+      running = running d;
+      told = sym (decoded d) ∙ command .1;
+      addressed =
+          decode-addressed (start d .args .f .row .len) (l .store) (l .q .progress .pointer) _ (command .0 .1 .0) (l .inv .bytes)
+          (sym (decoded d) ∙ command .1);
+      some = d .before .before .before .before .loop-test .taken;
+    }
 
--- .. is a step
-module _ (c : tie.After-obey Inv-loop μ-loop) where
-  abbrev asked : tie.After-decode Inv-loop μ-loop
-  asked = c .before .before .before .before .before .before
+-- the place after the command or batch, from that where its record is kept, and the loop's head, from there
+abbrev advanced : tie.After-q Inv-loop μ-loop → tie.After-advance Inv-loop μ-loop
+advanced c = c .before .before .before .before .before
 
-  abbrev lap : tie.At-loop Inv-loop μ-loop
-  lap = head asked
-
-  step-done : {e : Finish} →
-      let f = start asked .args .f in
-      let told = c .before .before .before .before .d .given .0 in
-      e ≡ obeyed (f .geometry) (f .row) (lap .loop .q) (told .1 .0) (told .0) (lap .loop .screen) (lap .loop .store)
-      → e ≡ stepped (f .geometry) (f .row) (lap .loop .q) (lap .loop .screen) (lap .loop .store)
-  step-done e = e ∙ stepped-do _ _ _ _ _ _ _ (sym (decoded asked) ∙ c .before .before .before .before .d .given .1)
-
--- the place after the command, from that where its record is kept
-abbrev obeyed-at : tie.After-q Inv-loop μ-loop → tie.After-obey Inv-loop μ-loop
-obeyed-at c = c .before .before .before .before .before
+abbrev lap : tie.After-advance Inv-loop μ-loop → tie.At-loop Inv-loop μ-loop
+lap c = head (c .before .before .before .before .before .before)
 
 -- the counts fit
 add-count : tie.Need-add-count Inv-loop μ-loop
 add-count c =
-    let d = obeyed-at (c .before) in
-    record { fits = omega (arith, lap d .loop .inv .spent, d .obey .ensures .one, one-left (asked d), start (asked d) .fits .budget .fits) }
+    let d = advanced (c .before) in
+    record { fits = omega (arith, lap d .loop .inv .spent, d .advance .ensures .within, entry (lap d) .fits .budget .fits) }
 
 add-paint : tie.Need-add-paint Inv-loop μ-loop
 add-paint c =
-    let d = obeyed-at (c .before .before) in
+    let d = advanced (c .before .before) in
     omega (
       arith,
       lap d .loop .inv .few,
       lap d .loop .inv .spent,
-      d .obey .ensures .few,
-      d .obey .ensures .one,
-      one-left (asked d),
-      start (asked d) .fits .budget .fits,
+      d .advance .ensures .few,
+      d .advance .ensures .within,
+      entry (lap d) .fits .budget .fits,
     )
 
 sub-rest : tie.Need-sub-rest Inv-loop μ-loop
-sub-rest c = omega (arith, one-left (asked (obeyed-at (c .before .before))))
+sub-rest c = omega (arith, c .larger .ensures, advanced (c .before .before .before) .advance .ensures .within)
 
 loop-less : tie.Need-loop-less Inv-loop μ-loop
-loop-less c = omega (arith, one-left (asked (obeyed-at (c .before .before))))
+loop-less c = omega (arith, c .larger .ensures, advanced (c .before .before .before) .advance .ensures .within)
 
 loop-again : tie.Need-loop-again Inv-loop μ-loop
 loop-again c =
-    let d = obeyed-at (c .before .before) in
+    let d = advanced (c .before .before .before) in
     let l = lap d .loop in
-    let f = start (asked d) .args .f in
-    let e = step-done d (d .obey .ensures .leaves) in
+    let f = entry (lap d) .args .f in
+    let s = d .advance .result in
+    let e = d .advance .ensures in
     record {
-      sound = sound-step (l .screen) (l .store) _ _ _ _ (running (asked d)) (l .inv .bytes) (l .inv .sound) (d .obey .kept .0) (d .obey .kept .1 .0) e;
-      bytes = λ i. c .before .before .before .slice-known4 .given i .fits;
-      wide = d .obey .kept .0 ∙ l .inv .wide;
-      tall = d .obey .kept .1 .0 ∙ l .inv .tall;
-      spent = omega (arith, l .inv .spent, d .obey .ensures .one, one-left (asked d));
-      few = omega (arith, l .inv .few, d .obey .ensures .few);
+      sound = e .sound;
+      bytes = λ i. c .before .before .before .before .slice-known4 .given i .fits;
+      wide = d .advance .kept .0 ∙ l .inv .wide;
+      tall = d .advance .kept .1 .0 ∙ l .inv .tall;
+      spent = omega (arith, l .inv .spent, c .larger .ensures, e .within);
+      few = omega (arith, l .inv .few, e .few);
       same =
-          sym (onward-step (f .geometry) (f .row) (l .rest - 1) (l .count) (l .paint) (l .q) (l .screen) (l .store)
-          (d .obey .result .count) (d .obey .result .paint) (d .obey .result .pane) _ _ (running (asked d)) e)
-          ∙ from-here (asked d);
+          ap (λ (n : ℕ). onward (f .geometry) (f .row) (l .rest - n)
+          (finish (l .count + s .count) (l .paint + s .paint) (s .pane) (d .advance .last .0) (d .advance .last .1 .0))) (c .larger .ensures)
+          ∙ onward-more (f .geometry) (f .row) (l .rest - max 1 (s .count)) (l .rest) (l .count) (l .paint) (s .count) (s .paint) (l .q) (s .pane)
+          (l .screen) (l .store) _ _ (e .leaves)
+          ∙ l .inv .same;
     }
 
 -- ## A spent budget
@@ -223,9 +223,10 @@ run-spec =
     same-length-3
     same-length-4
     returns-2
-    obey-requires
+    advance-requires
     add-count
     add-paint
+    (λ c κs. search needs)
     sub-rest
     loop-less
     loop-again

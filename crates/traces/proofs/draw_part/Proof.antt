@@ -10,9 +10,6 @@ use Rattle.traces.specs.Walks.{Tracing}
 use Rattle.traces.proofs.draw_part.Statement.{statement}
 use Rattle.traces.proofs.draw_part.Tie as tie
 
-stamps-of-requires : tie.Need-stamps-of-requires
-stamps-of-requires c κs = let r = c .before .before .before .before .pre .0 in (r .table, r .depth)
-
 -- the trace can be drawn in a buffer that the bitmap fits
 able : (s : tie.Start) (buffer : List ℕ) → Fits (s .args .t .area .surface) buffer → Tracing (s .args .t) (s .args .s) (s .args .e) buffer
 able s buffer fits =
@@ -30,36 +27,33 @@ able s buffer fits =
 
 walk-requires : tie.Need-walk-requires
 walk-requires c κs =
-    let i = c .before .before in
-    let s = i .before .before .before .before .before .before in
-    (able s (s .args .screen .now) (screen-fits (s .args .screen .now) (s .args .store .now) (s .pre .0) (i .if1 .taken)), i .before .stamps-of .ensures)
+    let i = c .before in
+    let s = i .before .before .before .before .before in
+    (able s (s .args .screen .now) (screen-fits (s .args .screen .now) (s .args .store .now) (s .pre .0) (i .if1 .taken)), s .pre .4)
 
 walk-requires-2 : tie.Need-walk-requires-2
 walk-requires-2 c κs =
-    let i = c .before .before in
-    let s = i .before .before .before .before .before .before in
-    (able s (s .args .store .now) (store-fits (s .args .screen .now) (s .args .store .now) (s .pre .0) (i .if1 .left)), i .before .stamps-of .ensures)
+    let i = c .before in
+    let s = i .before .before .before .before .before in
+    (able s (s .args .store .now) (store-fits (s .args .screen .now) (s .args .store .now) (s .pre .0) (i .if1 .left)), s .pre .4)
 
 returns : tie.Need-returns
 returns c =
     let w = c .before .before in
-    let o = w .before .before .before .if1 .taken in
+    let o = w .before .before .if1 .taken in
     (w .walk .ensures ∙ sym (cond-true _ _ o), sym (cond-true _ _ o))
 
 returns-2 : tie.Need-returns-2
 returns-2 c =
     let w = c .before .before in
-    let o = w .before .before .before .if1 .left in
+    let o = w .before .before .if1 .left in
     (sym (cond-false _ _ o), w .walk2 .ensures ∙ sym (cond-false _ _ o))
 
 pub draw-part-spec : {M : Type 1} → statement M
 draw-part-spec =
     tie.close
     (tie.spec
-    stamps-of-requires
-    (λ c. search needs)
     walk-requires
-    (λ c. search needs)
     walk-requires-2
     (λ c. search needs)
     returns

@@ -16,7 +16,7 @@ use Rattle.traces.proofs.draw_trace.Tie as tie
 
 -- the entry, from the place where the edges are known, and that place, from the one where it is known how many are visible
 abbrev entry : tie.After-edges-of → tie.Start
-entry c = c .before .before .before
+entry c = c .before .before .before .before
 
 abbrev edged : tie.After-seen-of → tie.After-edges-of
 edged c = c .before .before .before .before .before .before .before

@@ -7,13 +7,13 @@ use Rattle.draw_lines.proofs.segments.draw_segment.Tie as tie
 returns : tie.Need-returns
 returns c =
     let d = c .before .before .before .before in
-    rw (d .before .before .before .before .before .if1 .taken) (d .lone-line .ensures)
+    rw (d .before .before .before .before .is-span .ensures (d .before .before .before .if1 .taken)) (d .lone-line .ensures)
 
 returns-2 : tie.Need-returns-2
 returns-2 c =
     let d = c .before .before .before .before in
     let o = d .before .before .before in
-    let a = o .before .before .before .before .before .args in
+    let a = o .before .before .before .before .before .before .args in
     trace-painted (a .t) (a .from) (a .s) _ (o .trace-of .ensures) (d .draw-trace .ensures)
 
 pub draw-segment-spec : {M : Type 1} → statement M
