@@ -12,6 +12,7 @@ use Rattle.model.specs.declared.Point.{Point}
 use Rattle.model.specs.declared.Opcode.{Opcode}
 use Rattle.model.specs.declared.OpcodeEntry.the-variants.{Known}
 use Rattle.model.specs.declared.Decoded.the-variants.{Do}
+use Rattle.strips.proofs.StretchLaws.{true-false}
 use Rattle.batches.specs.declared.heads.Head.{Head}
 use Rattle.batches.specs.declared.heads.Move.{Move}
 use Rattle.batches.specs.Heads.{Standing, movedBy}
@@ -36,7 +37,4 @@ pub move-told : (pointer : ℕ) (from : Point) (h : Head) (m : Move) → m ≡ m
 unfolding movedBy
 move-told pointer from h m e done z =
     let k : m ≡ record { done = false; pointer = pointer; position = from } = e ∙ rw z in
-    still (sym (ap (λ (x : Move). x .done) k) ∙ done)
-  where
-    still : false ≡ true → ⊥
-    still e = let z : _≡_ {A = ℕ} 0 1 = cc in omega arith
+    true-false (sym done ∙ ap (λ (x : Move). x .done) k)

@@ -35,6 +35,7 @@ use Rattle.model.specs.Record.{paneOf, flagsOf}
 use Rattle.model.specs.Runs.{carried, stepped}
 use Rattle.model.specs.Steps.{Plan, attempted, drewFlags, drewPane, obey, planOf, step}
 use Rattle.model.proofs.Decisions.{split, cond-true, cond-false}
+use Rattle.strips.proofs.StretchLaws.{true-false}
 use Rattle.canvas.specs.declared.Drawn.{Drawn}
 use Rattle.canvas.specs.Canvas.{canvas, Painted}
 use Rattle.canvas.specs.Targets.{targetOf}
@@ -153,10 +154,7 @@ module _ (g : Geometry) (r : Row) (p : Pane) (screen store : List ℕ) (h : Head
       (ap (λ (z : Move). z .position) k))
       (λ w.
       let k : m ≡ record { done = false; pointer = at; position = p .position } = e ∙ rw (t, u, v, w) in
-      absurd (still (sym (ap (λ (z : Move). z .done) k) ∙ done))))))
-    where
-      still : false ≡ true → ⊥
-      still e = let z : _≡_ {A = ℕ} 0 1 = cc in omega arith
+      absurd (true-false (sym done ∙ ap (λ (z : Move). z .done) k))))))
 
   -- LINE
   pub line-stepped : (hits : ℕ) (screen′ store′ : List ℕ) → Drawable g r p (length screen) (length store) → h .op ≡ 0x54

@@ -1,13 +1,13 @@
 -- `batches::batch_on` meets its contract. The invariant: with what is left to run, what was done gives the whole run. Each way through the
 -- loop's body is one command more.
 use mathlib.Core.Path.{_≡_, sym, _∙_}
-use mathlib.Core.Bool.{true, false}
 use Prim.Native.Nat.{ℕ, _+_, _-_, _^_, _<_}
 use native.Mathlib.Omega.{arith}
 use borrow.Author.Needs.{needs}
 use borrow.Author.Tests.{not-false}
 use lib.ListN.{length}
 use Rattle.model.specs.Coordinates.{coord, moved}
+use Rattle.strips.proofs.StretchLaws.{true-false}
 use Rattle.canvas.specs.Targets.{Ready}
 use Rattle.batches.specs.Heads.{Standing}
 use Rattle.batches.proofs.HeadLaws.{move-told}
@@ -108,11 +108,8 @@ draw-circle-requires c κs =
     let s = entry l in (
       ready l,
       m .magnitude .ensures .1,
-      record { length = s .pre .2 .length; drawing = λ e. s .pre .2; picking = λ e. absurd (drawn (sym (s .pre .1) ∙ e)) },
+      record { length = s .pre .2 .length; drawing = λ e. s .pre .2; picking = λ e. absurd (true-false (sym e ∙ s .pre .1)) },
     )
-  where
-    drawn : false ≡ true → ⊥
-    drawn e = let z : _≡_ {A = ℕ} 0 1 = cc in omega arith
 
 module _ (c : tie.After-slice-known6 Inv-loop μ-loop) where
   abbrev ringed : tie.After-draw-circle Inv-loop μ-loop
