@@ -34,7 +34,7 @@ use Rattle.model.specs.Pixels.{changes}
 use Rattle.model.specs.Record.{paneOf, flagsOf}
 use Rattle.model.specs.Runs.{carried, stepped}
 use Rattle.model.specs.Steps.{Plan, attempted, drewFlags, drewPane, obey, planOf, step}
-use Rattle.model.proofs.Decisions.{split, cond-true, cond-false}
+use Rattle.model.proofs.Decisions.{split, and-false, cond-true, cond-false}
 use Rattle.strips.proofs.StretchLaws.{true-false}
 use Rattle.canvas.specs.declared.Drawn.{Drawn}
 use Rattle.canvas.specs.Canvas.{canvas, Painted}
@@ -74,10 +74,6 @@ or-false : (b : Bool) → (b || false) ≡ b
 or-false true = refl
 or-false false = refl
 
-and-false : (b : Bool) → (b && false) ≡ false
-and-false true = refl
-and-false false = refl
-
 drew-flags : (f : Flags) (at : Point) (n : ℕ) → f .picking ≡ false → drewFlags f (drawing [] at) n ≡ f
 drew-flags f at n e = λ i.
     flagsOf (f .picking) ((ap (λ (b : Bool). f .pick || (b && ltb 0 n)) e ∙ or-false (f .pick)) i) (or-false (f .trap) i) (f .switch)
@@ -85,7 +81,7 @@ drew-flags f at n e = λ i.
 drew-reached : (p : Pane) (next : ℕ) (at : Point) (n : ℕ) → p .flags .picking ≡ false → drewPane p next (drawing [] at) n ≡ reached p next at
 drew-reached p next at n e = λ i.
     paneOf
-    (record { status = cond-false statusTrapped (p .progress .status) (and-false (p .flags .switch)) i; fault = p .progress .fault; pointer = next })
+    (record { status = cond-false statusTrapped (p .progress .status) (and-false (p .flags .switch) false refl) i; fault = p .progress .fault; pointer = next })
     at (p .bitmap) (p .clip) (p .scissor) (p .pen) (p .text) (drew-flags (p .flags) at n e i) (p .returns)
 
 module _ (g : Geometry) (r : Row) (p : Pane) (screen store : List ℕ) (drawable : Drawable g r p (length screen) (length store)) where

@@ -32,9 +32,9 @@ reached p pointer position = withPointer (withPosition p position) pointer
 abbrev pub onward : Geometry → Row → ℕ → Finish → Finish
 onward g r n f = follow (runs g r n) f
 
--- a batch by the code: with a run of what is left of the budget after it, it leaves what a run of the whole budget
--- leaves; its commands are within the budget, and none draws more than the most pixels; without a command it changes
--- nothing
+-- a batch by the code. "While status is 1 and budget is left, run does this" (01): with a run of what is left of the
+-- budget after it, it leaves what a run of the whole budget leaves. Its commands are within the budget, and none draws
+-- more than the most pixels; without a command it changes nothing
 pub record Batches (g : Geometry) (r : Row) (budget : ℕ) (p : Pane) (screen store : List ℕ) (b : Batch)
     (screen′ store′ : List ℕ) : Type 0 where
   pub leaves : onward g r (budget - b .count)
