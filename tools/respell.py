@@ -11,6 +11,7 @@ import sys
 
 TOKEN = re.compile(r"[^\s(){}\[\]:;,.\"`λ∀→←∷×≡⊎⟨⟩⌜⌝|]+")
 IMPORT = re.compile(r"^\s*(?:pub\s+|ghost\s+)*use\s+([^\s{;]+?)(?:\.\{([^}]*)\})?(?:\s+as\s+\S+)?;?\s*$")
+ALIAS = re.compile(r"^\s*(?:pub\s+)?use\s+Rattle\.\w+\.(?:specs|proofs)\.[A-Z][\w.]*\s+as\s+(\S+)$")
 GOAL = re.compile(r"^\s*(?:pub\s+)?(\S+)\s*:\s*tie\.Need-")
 FIELD = re.compile(r"^\s+pub\s+(\S+)\s*:\s")
 CRATES = sorted(os.listdir("crates"))
@@ -144,6 +145,7 @@ def main():
                 turn_page(os.path.join(folder, name), table)
     for path in files(".antt", ".rt"):
         text = read(path)
+        aliases = {m.group(1) for m in map(ALIAS.match, text.split("\n")) if m}
         local = set()
         if path.endswith("Proof.antt"):
             local = {m.group(1) for m in map(GOAL.match, text.split("\n")) if m}
@@ -157,7 +159,8 @@ def main():
             def turned(t):
                 n = t.group(0)
                 after_dot = t.start() and line[t.start() - 1] == "."
-                if n not in table or n in local or after_dot and n not in fields:
+                head = re.search(r"[^\s(){}.]+$", line[: t.start() - 1]) if after_dot else None
+                if n not in table or n in local or after_dot and n not in fields and not (head and head.group(0) in aliases):
                     return n
                 if path.endswith(".rt") and "-" in n:
                     return n

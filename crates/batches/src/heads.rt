@@ -20,7 +20,7 @@ const LINK: u8 = 0x02;
 const NOP: u8 = 0x03;
 
 // The first words of a command: its opcode, or 0 for none that a batch has, and the two words after it.
-#[derive(Drop)]
+#[derive(Clone, Copy)]
 pub struct Head {
     pub op: u8,
     pub a: u16,
@@ -28,7 +28,7 @@ pub struct Head {
 }
 
 // Where a list goes on and from which position, if the command only moves.
-#[derive(Drop)]
+#[derive(Clone, Copy)]
 pub struct Move {
     pub done: bool,
     pub pointer: u32,

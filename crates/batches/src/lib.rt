@@ -1,5 +1,7 @@
 // Batches: lines, circles and moves that follow one another in a list, done on one target. What the record says of
 // drawing is looked up once a batch, and from command to command only the pointer and the position change.
+#![tactic(auto)]
+
 pub mod heads; // heads.rt: the first words of a command, and the commands that only move
 
 ghost use Rattle.std.specs.Prelude.{◌≡◌, true, false, ◌≤◌, length};
@@ -19,7 +21,7 @@ use model::{Command, Frame, Pane, Point};
 use traces::draw_trace;
 
 // How far a batch came: the pointer and the position, the commands done, and how many pixels they drew.
-#[derive(Drop)]
+#[derive(Clone, Copy)]
 pub struct Batch {
     pub pointer: u32,
     pub position: Point,

@@ -1,5 +1,7 @@
 // A list run, and a list judged, by the console's calls, exported to be timed against the second implementation
 // (bench/lists).
+#![tactic(auto)]
+
 use model::{Console, Geometry, Reply, Row, Verdict};
 
 // A console of one pane over the whole screen, its store the first `len` bytes of the stores.

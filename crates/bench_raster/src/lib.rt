@@ -1,4 +1,6 @@
 // Many blends for the measurement in bench/raster, which calls this from C. No program links it.
+#![tactic(auto)]
+
 ghost use Rattle.std.specs.Prelude.{◌≡◌, ◌<◌, length};
 ghost use Rattle.model.specs.Bitmaps.{Depth};
 

@@ -8,7 +8,7 @@ use crate::{bitmap_of, row_words};
 use model::{Bitmap, Frame, Surface};
 
 // A surface, which lies in the screen if `onscreen` and else in the store.
-#[derive(Drop)]
+#[derive(Clone, Copy)]
 pub struct Area {
     pub onscreen: bool,
     pub surface: Surface,

@@ -1,5 +1,7 @@
 // Bitmaps: where their pixels lie, DEF_BITMAP's rule, clips, the scissor, and bytes of the store that touch a bitmap.
 // Refusal 12, the commands' faults and the drawing commands look at these.
+#![tactic(auto)]
+
 pub mod areas; // areas.rt: where a bitmap's pixels lie
 pub mod scissors; // scissors.rt: where drawing can land on the screen
 

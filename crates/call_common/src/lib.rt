@@ -1,5 +1,7 @@
 // What the calls of the console have in common: admission, what they answer, a refusal, the address where a list
 // begins, a pane record replaced, and a fresh one.
+#![tactic(auto)]
+
 ghost use Rattle.std.specs.Prelude.{◌≡◌, ◌<◌};
 ghost use Rattle.model.specs.Record.{fresh};
 ghost use Rattle.model.specs.Calls.{start_refusal};
@@ -24,7 +26,7 @@ const REPLACE: u8 = 5;
 
 // What a call on a pane begins with: the number of the first refusal common to all calls, or 0, and where it
 // is 0 the pane's row and record.
-#[derive(Drop)]
+#[derive(Clone, Copy)]
 pub struct Admission {
     pub refusal: u8,
     pub row: Row,
@@ -56,7 +58,7 @@ pub fn start_refusal(row: Row, address: u32) -> u8
 }
 
 // What every call answers: the console record after it, and its reply.
-#[derive(Drop)]
+#[derive(Clone, Copy)]
 pub struct Answered {
     pub console: Console,
     pub reply: Reply,

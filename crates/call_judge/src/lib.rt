@@ -1,5 +1,7 @@
 // The judge (02, A.2): a pane's list judged before it runs. Crate `console` has it under one name with the other
 // calls.
+#![tactic(auto)]
+
 ghost use Rattle.std.specs.Prelude.{◌≡◌};
 ghost use Rattle.model.specs.Calls.{exec, on};
 ghost use Rattle.model.specs.Calls as calls;

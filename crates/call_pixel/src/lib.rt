@@ -1,4 +1,6 @@
 // Pixel: the call that answers one of a pane's pixels. Crate `console` has it under one name with the others.
+#![tactic(auto)]
+
 ghost use Rattle.std.specs.Prelude.{◌≡◌};
 ghost use Rattle.model.specs.Calls.{exec, on, own_refusal};
 ghost use Rattle.model.specs.Calls as calls;

@@ -1,4 +1,6 @@
 // Run: at most so many commands of a pane. Crate `console` has it under one name with the other calls.
+#![tactic(auto)]
+
 ghost use Rattle.std.specs.Prelude.{◌≡◌, ℕ};
 ghost use Rattle.model.specs.Calls.{exec, on, own_refusal, released};
 ghost use Rattle.model.specs.Calls as calls;

@@ -1,5 +1,7 @@
 // Set-up: the table is checked, and all eight pane records made fresh. Crate `console` has it under one name
 // with the calls.
+#![tactic(auto)]
+
 ghost use Rattle.std.specs.Prelude.{◌≡◌};
 ghost use Rattle.model.specs.Calls.{set_up};
 ghost use Rattle.call_common.specs.Answers.{state, answer};

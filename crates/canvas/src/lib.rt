@@ -1,5 +1,7 @@
 // Drawing on the active bitmap, which lies in the screen or in the pane's store: one dot through clip,
 // transparency and pick mode. Every drawing command is a list of such dots.
+#![tactic(auto)]
+
 pub mod landing; // landing.rt: the limits of drawing
 
 ghost use Rattle.std.specs.Prelude.{◌≡◌, ◌≤◌, ◌<◌, pos, length};
@@ -18,7 +20,7 @@ use raster::Truth;
 // Where and how a command draws: the area that it draws in, pick mode, the limits there, the pen, and the truth
 // table of the pen's operation, looked up once a command. The limits are a clip of the area: in the store the
 // record's, on the pane what its scissor holds.
-#[derive(Drop)]
+#[derive(Clone, Copy)]
 pub struct Target {
     pub area: Area,
     pub picking: bool,
@@ -49,14 +51,14 @@ pub fn target_of(f: Frame, p: Pane) -> Target
 }
 
 // Which way a command goes from its start: to the left, and up, or not.
-#[derive(Drop)]
+#[derive(Clone, Copy)]
 pub struct Heading {
     pub left: bool,
     pub up: bool,
 }
 
 // Where a command starts, and which way it goes from there.
-#[derive(Drop)]
+#[derive(Clone, Copy)]
 pub struct Course {
     pub from: Point,
     pub heading: Heading,
@@ -73,7 +75,7 @@ pub fn course_of(from: Point, dx: u16, dy: u16) -> Course
 }
 
 // How far a pixel lies from the start of a course, along each axis.
-#[derive(Drop)]
+#[derive(Clone, Copy)]
 pub struct Offset {
     pub x: usize,
     pub y: usize,
@@ -81,7 +83,7 @@ pub struct Offset {
 
 // What a drawing command answers: where the position then is, whether the trap flag is to be set, and how
 // many of its pixels are visible.
-#[derive(Drop)]
+#[derive(Clone, Copy)]
 pub struct Drawn {
     pub position: Point,
     pub trap: bool,

@@ -1,6 +1,8 @@
 // The console: set-up and the calls on a pane. Each takes the console record by value and lends both buffers,
 // whatever they hold, and answers the record after the call with a reply. Reply, record and both buffers are
 // what paper 01 says of them, refused or not: `exec` and `set_up` of model's specs/Calls.antt.
+#![tactic(auto)]
+
 mod face; // face.rt: every call called once by the name that it has here
 
 // What a caller names: the calls, what they answer, and a fresh pane record.

@@ -1,5 +1,7 @@
 // Coordinates: 16-bit patterns read as signed numbers, offsets with their sign, moves that wrap. Signed
 // arithmetic stays here.
+#![tactic(auto)]
+
 ghost use Rattle.std.specs.Prelude.{◌≡◌, ◌-◌, ◌<◌, ◌≤◌, ◌+ℤ◌, unsigned_abs};
 ghost use Rattle.model.specs.Coordinates.{coord, negative, moved};
 ghost use Rattle.coordinates.specs.Offsets.{directed, index_in, unbiased, Among, Between};
@@ -53,7 +55,7 @@ pub fn along(at: u16, back: bool, k: usize) -> i32
 }
 
 // A coordinate as an index from lo to hi, or outside.
-#[derive(Drop)]
+#[derive(Clone, Copy)]
 pub enum Index {
     At(usize),
     Outside,
@@ -75,7 +77,7 @@ pub fn index_between(at: u16, back: bool, k: usize, lo: u16, hi: u16) -> Index
 }
 
 // Two edges: of the numbers from 0 on, those from the first to below the second.
-#[derive(Drop)]
+#[derive(Clone, Copy)]
 pub struct Edges {
     pub first: usize,
     pub second: usize,

@@ -70,6 +70,23 @@ command_addressed opcode.Polyline w h a pairs_at = address_lt (w 0) (w 1) h
 command_addressed (opcode.Char t) w h a string_at = address_lt (w 0) (w 1) h
 command_addressed opcode.BitBltM w h a source_at = address_lt (w 0) (w 1) h
 command_addressed opcode.ScanLines w h a triples_at = address_lt (w 0) (w 1) h
+command_addressed opcode.Nop w h a e = elim e [ ]
+command_addressed (opcode.DefTexture _) w h a e = elim e [ ]
+command_addressed opcode.Return w h a e = elim e [ ]
+command_addressed opcode.DefColors w h a e = elim e [ ]
+command_addressed opcode.DefLogicalOp w h a e = elim e [ ]
+command_addressed opcode.EnterPick w h a e = elim e [ ]
+command_addressed opcode.ExitPick w h a e = elim e [ ]
+command_addressed opcode.DefClipRect w h a e = elim e [ ]
+command_addressed opcode.DefSpace w h a e = elim e [ ]
+command_addressed opcode.DefCharOrient w h a e = elim e [ ]
+command_addressed opcode.AbsMov w h a e = elim e [ ]
+command_addressed opcode.RelMov w h a e = elim e [ ]
+command_addressed opcode.Point w h a e = elim e [ ]
+command_addressed opcode.Line w h a e = elim e [ ]
+command_addressed opcode.Rect w h a e = elim e [ ]
+command_addressed opcode.BitBlt w h a e = elim e [ ]
+command_addressed opcode.Circle w h a e = elim e [ ]
 
 word_lt : (s : List ℕ) (at : ℕ) → ((k : ℕ) → get_or s k 0 < 256) → word_at s at < 65536
 word_lt s at bytes = omega (arith, bytes at, bytes (at + 1))

@@ -1,4 +1,6 @@
 // What stands at the pointer: a command with its words, the end, or a fault.
+#![tactic(auto)]
+
 ghost use Rattle.std.specs.Prelude.{◌≡◌, ◌+◌, ◌*◌, ◌%◌, ◌≤◌, eqb, length};
 ghost use Rattle.model.specs.Words.{address};
 ghost use Rattle.model.specs.Commands.{opcode_of, parameter, command_of, decode};
@@ -80,6 +82,7 @@ fn block(store: &[u8], at: usize, i: usize) -> Block
 }
 
 // The command at an address with the words that its opcode asks for, all of them in the store.
+#[tactic(auto, unfolding(model::specs::Commands::command_of))]
 fn command(store: &[u8], at: usize, op: Opcode) -> Command
     requires { at + 2 + 2 * word_count op ≤ length store.now }
     ensures { result ≡ command_of op (parameter store.now at) }

@@ -1,5 +1,7 @@
 // POLYLINE and SCAN_LINES: the lines that an array in the store names. The array may stand in the store that
 // is drawn on; it is read as the lines are drawn, and no line touches it.
+#![tactic(auto)]
+
 ghost use Rattle.std.specs.Prelude.{◌≡◌, false, ◌+◌, ◌*◌, ◌≤◌, ◌<◌, pos, length};
 ghost use Rattle.model.specs.Coordinates.{coord, place, moved};
 ghost use Rattle.model.specs.Dots.{drawing};
@@ -90,7 +92,7 @@ pub fn polyline(
 }
 
 // A triple of SCAN_LINES: the move to the start of a horizontal line, and that line's length.
-#[derive(Drop)]
+#[derive(Clone, Copy)]
 struct Triple {
     pub dx: u16,
     pub dy: u16,

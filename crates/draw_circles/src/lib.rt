@@ -1,4 +1,6 @@
 // CIRCLE: a walk along an eighth of the circle, each of its points with its reflections.
+#![tactic(auto)]
+
 mod sheets; // sheets.rt: points in one buffer
 mod sides; // sides.rt: the limits to either side of the centre
 mod tables; // tables.rt: the stamps that a circle is drawn with
@@ -19,7 +21,7 @@ use sides::overlap_of;
 use tables::stamps_for;
 
 // Where the walk along the eighth has come to: the point (i,j), and how far j × (j+1) + i² is above r².
-#[derive(Drop)]
+#[derive(Clone, Copy)]
 struct EighthPoint {
     i: usize,
     j: usize,

@@ -12,7 +12,7 @@ use model::{Clip, Point, Surface};
 
 // What a circle is drawn on: a surface in a buffer, the limits there, the circle's centre, and whether all of it lies
 // in the limits.
-#[derive(Drop)]
+#[derive(Clone, Copy)]
 pub struct Sheet {
     pub surface: Surface,
     pub clip: Clip,

@@ -6,7 +6,7 @@ ghost use Rattle.draw_circles.specs.Sides.{SidesIn, SidesOf, OverlapOf};
 use coordinates::biased;
 
 // A column or row, and whether it is to be drawn.
-#[derive(Drop)]
+#[derive(Clone, Copy)]
 pub struct Side {
     pub at: usize,
     pub on: bool,
@@ -14,7 +14,7 @@ pub struct Side {
 
 // The columns or rows k after and k before another. Each is to be drawn where it lies in the limits, and the second
 // where it is not the first again.
-#[derive(Drop)]
+#[derive(Clone, Copy)]
 pub struct Sides {
     pub after: Side,
     pub before: Side,
@@ -52,7 +52,7 @@ pub fn sides_of(at: u16, k: usize, lo: u16, hi: u16, inside: bool) -> Sides
 }
 
 // Whether some of the coordinates up to r from another lie in the limits, and whether all do.
-#[derive(Drop)]
+#[derive(Clone, Copy)]
 pub struct Overlap {
     pub some: bool,
     pub all: bool,

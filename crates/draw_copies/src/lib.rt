@@ -1,6 +1,8 @@
 // BIT_BLT and BIT_BLT_M: a block of pixels copied in place, as though all were read first. It is cropped to
 // the clip once, and then goes row by row, each by whole words, in the order in which no row is drawn on before it is
 // read.
+#![tactic(auto)]
+
 ghost use Rattle.std.specs.Prelude.{◌≡◌, ◌+◌, ◌<◌, ◌≤◌, false, length, pos, ◌+ℤ◌, if◌then◌else◌};
 ghost use Rattle.model.specs.Bitmaps.{pixels};
 ghost use Rattle.model.specs.Coordinates.{coord, moved};
@@ -19,7 +21,7 @@ use row_copies::{Operator, RowCopy};
 
 // Of numbered columns or rows those that lie in the clip: the first of them, how many, and where the first
 // lies.
-#[derive(Drop)]
+#[derive(Clone, Copy)]
 pub struct Extent {
     pub skip: usize,
     pub count: usize,
@@ -27,7 +29,7 @@ pub struct Extent {
 }
 
 // A rectangle all of whose pixels lie in the clip: from (sx,sy) of the source on, to (x,y) of the target.
-#[derive(Drop)]
+#[derive(Clone, Copy)]
 pub struct Patch {
     pub sx: usize,
     pub sy: usize,
@@ -39,7 +41,7 @@ pub struct Patch {
 
 // A copy that is cropped to the clip: a patch of a source, whether its rows are taken from the bottom up, and what
 // the pen makes of source and old bits.
-#[derive(Drop)]
+#[derive(Clone, Copy)]
 pub struct Transfer {
     pub source: Area,
     pub patch: Patch,
@@ -86,7 +88,7 @@ fn patch_of(clip: Clip, from: Point, b: Block) -> Patch
 }
 
 // Where a pixel begins: the first byte of its row, and its first bit from the left of the row.
-#[derive(Drop)]
+#[derive(Clone, Copy)]
 pub struct Start {
     pub row: usize,
     pub bit: usize,

@@ -1,4 +1,6 @@
 // POINT, LINE, and the lines of an array: each as the dots that the paper names, drawn in order.
+#![tactic(auto)]
+
 pub mod segments; // segments.rt: one segment of a line, sloped or level, with the count carried on
 pub mod commands; // commands.rt: POINT and LINE
 

@@ -20,7 +20,7 @@ use traces::slopes::Axes;
 const SHORTEST_SPAN: usize = 64;
 
 // A segment of a line by (dx,dy): the line's pixels from pixel `first` on, which takes pattern index `index`.
-#[derive(Drop)]
+#[derive(Clone, Copy)]
 pub struct Segment {
     pub dx: u16,
     pub dy: u16,

@@ -1,4 +1,6 @@
 // RECT: the outline of a rectangle, each pixel once, one pattern index along all four sides.
+#![tactic(auto)]
+
 ghost use Rattle.std.specs.Prelude.{◌≡◌, ◌+◌, ◌-◌, ◌≤◌, ◌<◌, length};
 ghost use Rattle.model.specs.Ranges.{listed};
 ghost use Rattle.model.specs.Coordinates.{coord};
@@ -26,7 +28,7 @@ const SHORTEST_SIDE: usize = 16;
 const SHORTEST_UPRIGHT: usize = 8;
 
 // The outline of a rectangle: its course, and its sides a = |dx| and b = |dy|.
-#[derive(Drop)]
+#[derive(Clone, Copy)]
 pub struct Outline {
     pub course: Course,
     pub a: usize,

@@ -24,7 +24,7 @@ use model::Point;
 
 // How the cells of a character are drawn: the course that they take from the position, whether a row of them
 // goes along y, and whether bits of 0 are left out.
-#[derive(Drop)]
+#[derive(Clone, Copy)]
 pub struct CellStyle {
     pub course: Course,
     pub sideways: bool,
@@ -50,7 +50,7 @@ pub fn style_of(rotation: u8, from: Point, transparent: bool) -> CellStyle
 
 // Rows of cells along x, one below or above the other: a word each, the first cell in bit 15; how many cells a row
 // has, and how many rows there are.
-#[derive(Drop)]
+#[derive(Clone, Copy)]
 pub struct Grid {
     pub cells: [u16; 16],
     pub width: usize,
@@ -58,7 +58,7 @@ pub struct Grid {
 }
 
 // A row of a grid: its number, how many cells it has, and these.
-#[derive(Drop)]
+#[derive(Clone, Copy)]
 pub struct CellRow {
     pub number: usize,
     pub width: usize,

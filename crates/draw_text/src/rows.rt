@@ -26,7 +26,7 @@ use stencils::{Stencil, draw_cells};
 
 // What the rows of a grid have in common: the span of the first, which of its pixels lie in the clip's columns, and
 // the stencil of these.
-#[derive(Drop)]
+#[derive(Clone, Copy)]
 pub struct RowPlan {
     pub span: Span,
     pub edges: Edges,

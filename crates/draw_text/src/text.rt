@@ -17,7 +17,7 @@ use model::{Point, Text};
 
 // The characters that CHAR names: where their string stands, how many there are, and whether bits of 0 are
 // left out.
-#[derive(Drop)]
+#[derive(Clone, Copy)]
 pub struct Characters {
     pub string: u32,
     pub count: u16,

@@ -1,4 +1,6 @@
 // The checks of BIT_BLT and BIT_BLT_M: a block in its bitmap, and bytes in common with the active bitmap.
+#![tactic(auto)]
+
 ghost use Rattle.std.specs.Prelude.{◌≡◌, false, ◌+◌, ◌*◌, ◌^◌, ◌<◌, ◌≤◌};
 ghost use Rattle.model.specs.Bitmaps.{word_of, touches};
 ghost use Rattle.model.specs.Coordinates.{coord, index};

@@ -1,4 +1,5 @@
 // CHAR's string in the store: where its characters' descriptors stand, and whether all of it can be read.
+#![tactic(auto)]
 
 // A character's descriptor: where it stands, and what its first word says.
 pub mod descriptor;

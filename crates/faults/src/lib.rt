@@ -1,4 +1,6 @@
 // Each command's fault, looked for before any of that command is done.
+#![tactic(auto)]
+
 ghost use Rattle.std.specs.Prelude.{◌≡◌, false, cond, ◌||◌, ◌%◌, ◌≤◌, ◌<◌, ◌^◌, eqb, leb, length};
 ghost use Rattle.model.specs.Numbers.{
   fault_bitmap,

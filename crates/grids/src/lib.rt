@@ -1,4 +1,6 @@
 // Sixteen rows of sixteen cells, a word each, the leftmost cell in bit 15: transposed, mirrored, their 1s counted.
+#![tactic(auto)]
+
 ghost use Rattle.std.specs.Prelude.{◌≡◌, ◌+◌, ◌-◌, ◌*◌, ◌^◌, ◌≤◌, ◌<◌};
 ghost use Rattle.std.specs.Int.Bits.{bit_and};
 ghost use Rattle.strips.specs.Strokes.{shown, pattern_on};
@@ -8,7 +10,7 @@ ghost use Rattle.grids.specs.Grids.{FourRows, WithRows, Exchanged, Turned, Block
 use coordinates::Edges;
 
 // Four rows each, the first row lowest.
-#[derive(Drop)]
+#[derive(Clone, Copy)]
 pub struct Pair {
     pub first: u64,
     pub second: u64,

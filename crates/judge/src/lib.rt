@@ -1,6 +1,8 @@
 // A list judged before it runs (02, A.2): "judging a list judges its commands, and a CALL judges a list with
 // fewer levels left". The list judge goes over commands; the command judge says what follows a command, and for
 // CALL asks the list judge. Only what faults depend on is carried along, and no pixel is worked out.
+#![tactic(auto)]
+
 ghost use Rattle.std.specs.Prelude.{◌≡◌, length};
 ghost use Rattle.model.specs.declared.Command.TheVariants.{DefBitmap};
 ghost use Rattle.model.specs.Commands.{Addressed};
@@ -27,7 +29,7 @@ const FAULT_LONG: u8 = 32;
 const MOST_WALKED: u32 = 4096;
 
 // What a command is to the judge: faulty, CALL, RETURN, DEF_BITMAP of the pane, DEF_CHAR_SET, or none of these.
-#[derive(Drop)]
+#[derive(Clone, Copy)]
 pub enum Role {
     Faulty(u8),
     Calls(u32),
@@ -39,7 +41,7 @@ pub enum Role {
 
 // How a list stops: at an end word, at a RETURN with what it leaves, both with the commands that are left to
 // walk, or at a fault with its address.
-#[derive(Drop)]
+#[derive(Clone, Copy)]
 pub enum Stop {
     Ended(u32),
     Returned(Context, u32),
@@ -48,7 +50,7 @@ pub enum Stop {
 
 // What follows a command in its list: more commands, from an address on, with the commands that are left to
 // walk; or the list stops.
-#[derive(Drop)]
+#[derive(Clone, Copy)]
 pub enum Next {
     On(Context, u32, u32),
     Stops(Stop),

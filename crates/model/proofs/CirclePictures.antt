@@ -156,7 +156,7 @@ circle_pictures = refl
 
 -- (0,2) with its reflections, then (1,2) with its own
 pub points_two :
-    circles.circlePoints 2
+    circles.circle_points 2
     ≡ at (pos 0) (pos 2) ∷ at (pos 0) (neg 2) ∷ at (pos 2) (pos 0) ∷ at (neg 2) (pos 0)
     ∷ at (pos 1) (pos 2) ∷ at (neg 1) (pos 2) ∷ at (pos 1) (neg 2) ∷ at (neg 1) (neg 2)
     ∷ at (pos 2) (pos 1) ∷ at (neg 2) (pos 1) ∷ at (pos 2) (neg 1) ∷ at (neg 2) (neg 1) ∷ []
@@ -164,7 +164,7 @@ unfolding machine
 points_two = refl
 
 -- how many points radii 0, 1, 2, 3, 4, 5 and 8 have
-pub points_counted : map (λ (r : ℕ). length (circles.circlePoints r)) (0 ∷ 1 ∷ 2 ∷ 3 ∷ 4 ∷ 5 ∷ 8 ∷ []) ≡ 1 ∷ 4 ∷ 12 ∷ 16 ∷ 24 ∷ 28 ∷ 44 ∷ []
+pub points_counted : map (λ (r : ℕ). length (circles.circle_points r)) (0 ∷ 1 ∷ 2 ∷ 3 ∷ 4 ∷ 5 ∷ 8 ∷ []) ≡ 1 ∷ 4 ∷ 12 ∷ 16 ∷ 24 ∷ 28 ∷ 44 ∷ []
 unfolding machine
 points_counted = refl
 

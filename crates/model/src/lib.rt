@@ -1,6 +1,8 @@
 // The plain data of the pane console that all crates share: structs and enums by value. What they mean is
 // stated in specs/, in the order of the paper. The three functions do nothing: their contracts are the theorems
 // over the bench figures, over CIRCLE's points and over the scissor.
+#![tactic(auto)]
+
 ghost use Rattle.std.specs.Prelude.{ℕ};
 ghost use Rattle.model.specs.Circles.{CirclePoints};
 ghost use Rattle.model.specs.Figures.{All, table};
@@ -9,7 +11,7 @@ ghost use Rattle.model.specs.ScissorKept.{ScissorKept};
 // ---- Screen, panes, stores
 
 // The screen's size in pixels, and its bits per pixel.
-#[derive(Drop)]
+#[derive(Clone, Copy)]
 pub struct Geometry {
     pub width: u32,
     pub height: u32,
@@ -18,7 +20,7 @@ pub struct Geometry {
 
 // A row of the table, one for each pane: a rectangle of the screen, and the store, a part of the stores
 // buffer.
-#[derive(Drop)]
+#[derive(Clone, Copy)]
 pub struct Row {
     pub left: u32,
     pub top: u32,
@@ -29,7 +31,7 @@ pub struct Row {
 }
 
 // What a pane is seen through: the screen's geometry and the pane's row.
-#[derive(Drop)]
+#[derive(Clone, Copy)]
 pub struct Frame {
     pub geometry: Geometry,
     pub row: Row,
@@ -47,7 +49,7 @@ pub const STATUS_FAULTED: u8 = 3;
 pub const STATUS_TRAPPED: u8 = 4;
 
 // How far a list has come.
-#[derive(Drop)]
+#[derive(Clone, Copy)]
 pub struct Progress {
     pub status: u8,
     pub fault: u8,
@@ -55,14 +57,14 @@ pub struct Progress {
 }
 
 // A position: the bit patterns of two 16-bit signed coordinates.
-#[derive(Drop)]
+#[derive(Clone, Copy)]
 pub struct Point {
     pub x: u16,
     pub y: u16,
 }
 
 // The active bitmap, with the values that DEF_BITMAP gave.
-#[derive(Drop)]
+#[derive(Clone, Copy)]
 pub enum Bitmap {
     Absent,
     Pane {
@@ -79,7 +81,7 @@ pub enum Bitmap {
 }
 
 // The clip rectangle, all four sides in.
-#[derive(Drop)]
+#[derive(Clone, Copy)]
 pub struct Clip {
     pub xmin: u16,
     pub ymin: u16,
@@ -89,7 +91,7 @@ pub struct Clip {
 
 // The scissor (02, A.6): "the rectangle in screen coordinates where drawing can land", four zeros where it can
 // land nowhere.
-#[derive(Drop)]
+#[derive(Clone, Copy)]
 pub struct Scissor {
     pub left: u32,
     pub top: u32,
@@ -98,7 +100,7 @@ pub struct Scissor {
 }
 
 // What pixels are drawn with: colours, raster operation with its mask, pattern.
-#[derive(Drop)]
+#[derive(Clone, Copy)]
 pub struct Pen {
     pub fore: u16,
     pub back: u16,
@@ -109,7 +111,7 @@ pub struct Pen {
 }
 
 // The font: none, or its base address in word mode or in byte mode.
-#[derive(Drop)]
+#[derive(Clone, Copy)]
 pub enum Font {
     Absent,
     Word(u32),
@@ -117,7 +119,7 @@ pub enum Font {
 }
 
 // What characters are drawn with; path and rotation in quarter turns.
-#[derive(Drop)]
+#[derive(Clone, Copy)]
 pub struct Text {
     pub spacing: u16,
     pub path: u8,
@@ -126,7 +128,7 @@ pub struct Text {
 }
 
 // Pick mode, the pick and trap flags, and the trap switch (02, A.7): on, a CHAR that met a T stops the run.
-#[derive(Drop)]
+#[derive(Clone, Copy)]
 pub struct Flags {
     pub picking: bool,
     pub pick: bool,
@@ -135,7 +137,7 @@ pub struct Flags {
 }
 
 // The return addresses that CALL kept, the latest at count - 1.
-#[derive(Drop)]
+#[derive(Clone, Copy)]
 pub struct Returns {
     pub addresses: [u32; 8],
     pub count: u8,
@@ -143,7 +145,7 @@ pub struct Returns {
 
 // What of a pane record the faults of a command depend on: the active bitmap, the font, and how many return
 // addresses are kept.
-#[derive(Drop)]
+#[derive(Clone, Copy)]
 pub struct Context {
     pub bitmap: Bitmap,
     pub font: Font,
@@ -151,7 +153,7 @@ pub struct Context {
 }
 
 // A pane record.
-#[derive(Drop)]
+#[derive(Clone, Copy)]
 pub struct Pane {
     pub progress: Progress,
     pub position: Point,
@@ -165,7 +167,7 @@ pub struct Pane {
 }
 
 // The console record. The first `count` rows are the table; pane n has row n and record n.
-#[derive(Drop)]
+#[derive(Clone, Copy)]
 pub struct Console {
     pub geometry: Geometry,
     pub count: u32,
@@ -176,7 +178,7 @@ pub struct Console {
 // ---- One command
 
 // What an opcode number names.
-#[derive(Drop)]
+#[derive(Clone, Copy)]
 pub enum Opcode {
     Link,
     Nop,
@@ -206,14 +208,14 @@ pub enum Opcode {
 }
 
 // An opcode number: what it names with the number of its parameter words, or unknown.
-#[derive(Drop)]
+#[derive(Clone, Copy)]
 pub enum OpcodeEntry {
     Known(Opcode, u8),
     Unknown,
 }
 
 // The source rectangle of a copy, by its words: from (x,y) to (x+dx,y+dy), both corners in.
-#[derive(Drop)]
+#[derive(Clone, Copy)]
 pub struct Block {
     pub x: u16,
     pub y: u16,
@@ -222,7 +224,7 @@ pub struct Block {
 }
 
 // A command with its words. Coordinates and offsets are 16-bit patterns, addresses have 22 bits.
-#[derive(Drop)]
+#[derive(Clone, Copy)]
 pub enum Command {
     Link {
         address: u32,
@@ -316,7 +318,7 @@ pub enum Command {
 }
 
 // What stands at the pointer: a command with the address after it, the end, or a fault.
-#[derive(Drop)]
+#[derive(Clone, Copy)]
 pub enum Decoded {
     Do(Command, u32),
     End,
@@ -327,7 +329,7 @@ pub enum Decoded {
 
 // Pixels in a buffer: rows of so many words from the base byte on, and of these rows and columns the
 // rectangle from (left, top) on. The pane and a bitmap in the store are both one.
-#[derive(Drop)]
+#[derive(Clone, Copy)]
 pub struct Surface {
     pub base: usize,
     pub words: usize,
@@ -339,7 +341,7 @@ pub struct Surface {
 }
 
 // What a pixel is drawn with: nothing (a 0 under transparency), a colour word, or a copied value.
-#[derive(Drop)]
+#[derive(Clone, Copy)]
 pub enum Source {
     Nothing,
     Colour(u16),
@@ -349,7 +351,7 @@ pub enum Source {
 // ---- Replies
 
 // What run answers: the commands done, the status and the fault, and the pixels drawn.
-#[derive(Drop)]
+#[derive(Clone, Copy)]
 pub struct Ran {
     pub commands: u32,
     pub status: u8,
@@ -358,7 +360,7 @@ pub struct Ran {
 }
 
 // What look answers.
-#[derive(Drop)]
+#[derive(Clone, Copy)]
 pub struct View {
     pub progress: Progress,
     pub position: Point,
@@ -368,14 +370,14 @@ pub struct View {
 
 // What the judge finds: a clean list with the number of commands walked, or the number of a fault, 31 or 32
 // among them, with its address.
-#[derive(Drop)]
+#[derive(Clone, Copy)]
 pub enum Verdict {
     Clean(u32),
     Found(u8, u32),
 }
 
 // A call's reply: the refusal, or acceptance with its values.
-#[derive(Drop)]
+#[derive(Clone, Copy)]
 pub enum Reply {
     Refused(u8),
     Done,

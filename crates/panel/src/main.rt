@@ -1,5 +1,7 @@
 // A first picture, for the panel's programmer: set-up, a list put, started and run, its reply matched.
 // README.md shows the part between the marks; tests/run-documents compares the two.
+#![tactic(auto)]
+
 use model::{Console, Geometry, Reply, Row};
 
 // README: begin

@@ -1,5 +1,7 @@
 // Every command, done: a command that draws nothing leaves another record, and what follows a drawing stands
 // here once.
+#![tactic(auto)]
+
 pub mod settling; // settling.rt: the commands that draw nothing
 pub mod drawing; // drawing.rt: the drawing commands, on the pane's target
 
@@ -13,7 +15,7 @@ use model::{Command, Frame, Pane, STATUS_TRAPPED};
 use settling::settle;
 
 // What a command leaves beside both buffers: the record, and how many pixels it drew.
-#[derive(Drop)]
+#[derive(Clone, Copy)]
 pub struct Performed {
     pub pane: Pane,
     pub paint: u64,

@@ -1,5 +1,7 @@
 // The graphics processor: what stands at the pointer is decoded, checked and done; a run does so while the
 // status is 1 and budget is left.
+#![tactic(auto)]
+
 ghost use Rattle.std.specs.Prelude.{◌≡◌, max, length};
 ghost use Rattle.model.specs.Commands.{Addressed};
 ghost use Rattle.model.specs.Faults.{context_of, fault_of};
@@ -15,7 +17,7 @@ use perform::perform;
 use state_commands::control;
 
 // The record after a command or a run, the commands done, and how many pixels they drew.
-#[derive(Drop)]
+#[derive(Clone, Copy)]
 pub struct Finished {
     pub pane: Pane,
     pub count: u32,

@@ -4,7 +4,7 @@ ghost use Rattle.model.specs.Words.{num, within};
 ghost use Rattle.raster.specs.Operations.{truth_of, muxed, chosen, bit_field};
 
 // A truth table, each of its four bits spread over a byte: A, B, C and D of its code.
-#[derive(Drop)]
+#[derive(Clone, Copy)]
 pub struct Truth(pub u8, pub u8, pub u8, pub u8);
 
 // The truth tables of the sixteen operations, by code: four bytes each, the first lowest. A word for each is what the

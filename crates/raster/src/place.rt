@@ -5,7 +5,7 @@ use model::Surface;
 
 // The byte of the buffer that holds a pixel, the pixel's lowest bit in that byte, and which half of its word
 // that byte is: 0 low, 1 high.
-#[derive(Drop)]
+#[derive(Clone, Copy)]
 pub struct PixelPlace {
     pub at: usize,
     pub shift: usize,

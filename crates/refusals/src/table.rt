@@ -96,14 +96,14 @@ fn share_byte(a: Row, b: Row) -> bool
 }
 
 // Whether a row shares a pixel, or a byte of its store, with one of the first rows.
-#[derive(Drop)]
+#[derive(Clone, Copy)]
 pub struct Sharing {
     pub pixel: bool,
     pub byte: bool,
 }
 
 // Which of the refusals 8 to 11 the first rows give.
-#[derive(Drop)]
+#[derive(Clone, Copy)]
 pub struct Findings {
     pub rectangle: bool,
     pub store: bool,

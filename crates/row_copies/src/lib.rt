@@ -1,4 +1,6 @@
 // Rows of pixels copied by whole words: any operation and mask, any phase, between two buffers or within one.
+#![tactic(auto)]
+
 pub mod carries; // carries.rt: plain bytes moved
 pub mod chunks; // chunks.rt: eight words at once
 pub mod copies; // copies.rt: a row copied from one buffer to another

@@ -11,7 +11,7 @@ use raster::Truth;
 use strips::inks::Ink;
 
 // A word becomes (old & ((s & q) ^ r)) ^ ((s & p) ^ a), where s is the source; if `plain`, it becomes s.
-#[derive(Drop)]
+#[derive(Clone, Copy)]
 pub struct Operator {
     pub a: u16,
     pub p: u16,

@@ -4,7 +4,7 @@ ghost use Rattle.row_copies.specs.Rows.{EndsOf};
 
 // `count` bits of the row that begins at byte `base` of the source, from bit `from` on, from the left, go to the row
 // that begins at byte `row` of the target, bit `to` and on.
-#[derive(Drop)]
+#[derive(Clone, Copy)]
 pub struct RowCopy {
     pub row: usize,
     pub to: usize,
@@ -15,7 +15,7 @@ pub struct RowCopy {
 
 // The first and the last word of a row that a copy changes: its first bit in the first, the bit after its last in the
 // last, both from the left.
-#[derive(Drop)]
+#[derive(Clone, Copy)]
 pub struct Ends {
     pub first: usize,
     pub lead: usize,

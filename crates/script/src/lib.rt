@@ -1,6 +1,8 @@
 // The script program on slices: lines in, replies out, in the language of `panes` or of `calls`. Each line is
 // taken apart into what it says, obeyed, and its reply written: `answered` (specs/Scripts.antt) is the
 // definition of the whole program.
+#![tactic(auto)]
+
 ghost use Rattle.std.specs.Prelude.{◌≡◌, ◌≤◌, length, take, replicate};
 ghost use Rattle.io.specs.Counts.{IsPrefixLen};
 ghost use Rattle.script_fields.specs.Fields.{lines_of, most_script, most_bytes};

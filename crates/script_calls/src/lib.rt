@@ -1,5 +1,7 @@
 // The lines of the calls obeyed: w, g, r, l and x, and k, c, j and t of the language of `calls`. Each call is
 // lent the screen's rows and the stores, and nothing more.
+#![tactic(auto)]
+
 ghost use Rattle.std.specs.Prelude.{◌≡◌, true};
 ghost use Rattle.model.specs.Calls.{exec, on};
 ghost use Rattle.call_common.specs.Answers.{state, answer};

@@ -1,4 +1,6 @@
 // A script's text: the end of a line, a line's fields, and the numbers and bytes they spell.
+#![tactic(auto)]
+
 ghost use Rattle.std.specs.Prelude.{◌≤◌, suc, ◌+◌, length, take, drop, ◌≡◌};
 ghost use Rattle.script_fields.specs.Numbers.{digit_of, longer, spelled_number};
 ghost use Rattle.script_fields.specs.Fields.{bytes_before, fields_of, field, spelled_bytes, buffered_bytes};
@@ -26,21 +28,21 @@ pub const HEX: u32 = 16;
 const NO_DIGIT: u8 = 16;
 
 // A number of at most 32 bits, or a field that spells none.
-#[derive(Drop)]
+#[derive(Clone, Copy)]
 pub enum Number {
     Good(u32),
     Bad,
 }
 
 // The numbers of a line, or that its fields spell none.
-#[derive(Drop)]
+#[derive(Clone, Copy)]
 pub struct Values {
     pub bad: bool,
     pub values: [u32; 5],
 }
 
 // Where a field stands in its line: its first byte, and the place after its last.
-#[derive(Drop)]
+#[derive(Clone, Copy)]
 struct FieldRange {
     from: usize,
     end: usize,

@@ -9,7 +9,7 @@ use Rattle.script_fields.specs.Fields.{fields_of, field, spelled_bytes, line_num
 use Rattle.script_lines.specs.declared.Language.{Language}
 use Rattle.script_lines.specs.declared.Language.TheVariants as language
 use Rattle.script_lines.specs.declared.Reading.{Reading}
-use Rattle.script_lines.specs.declared.Call as declared-call
+use Rattle.script_lines.specs.declared.Call as declared_call
 use Rattle.script_lines.specs.declared.Call.TheVariants as call
 use Rattle.script_lines.specs.declared.Line as declared
 use Rattle.script_lines.specs.declared.Line.TheVariants as written

@@ -1,4 +1,6 @@
 // What a line of a script says: its letter, and the values of its fields.
+#![tactic(auto)]
+
 ghost use Rattle.std.specs.Prelude.{◌≡◌, ◌≤◌, length, take};
 ghost use Rattle.model.specs.Calls.{on};
 ghost use Rattle.model.specs.Calls as calls;
@@ -37,7 +39,7 @@ const SWITCH: u8 = b't';
 
 // The two languages: that of the program `panes`, and that of `calls`, which has the letters `k`, `c`, `j` and
 // `t` for peek, clear, judge and switch besides.
-#[derive(Drop)]
+#[derive(Clone, Copy)]
 pub enum Language {
     Panes,
     Calls,
@@ -46,7 +48,7 @@ pub enum Language {
 // A call on a pane with its values: put (address, how many bytes), start (address), run (budget), look,
 // pixel (x, y), peek (address), clear, judge (address), switch (value). The bytes of a put stand at the start
 // of a buffer beside it.
-#[derive(Drop)]
+#[derive(Clone, Copy)]
 pub enum Call {
     Put(u32, u32),
     Start(u32),
@@ -60,7 +62,7 @@ pub enum Call {
 }
 
 // A line: the screen, a pane, set-up, a call under its letter on a pane, or one that is malformed.
-#[derive(Drop)]
+#[derive(Clone, Copy)]
 pub enum Line {
     Screen(Geometry),
     Pane {
@@ -77,7 +79,7 @@ pub enum Line {
 
 // How a line is read: how many fields follow its letter, and how many of them, the first, are numbers, each
 // in its base.
-#[derive(Drop)]
+#[derive(Clone, Copy)]
 struct Reading {
     fields: usize,
     bases: [u32; 5],

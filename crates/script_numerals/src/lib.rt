@@ -1,5 +1,7 @@
 // Numbers as text: decimal, hex without zeros in front, signed. Each function writes from a place of the
 // buffer on and answers the place after; what the buffer has no room for is left out.
+#![tactic(auto)]
+
 ghost use Rattle.std.specs.Prelude.{[], ◌∷◌, ◌≤◌, length};
 ghost use Rattle.model.specs.Words.{digit};
 ghost use Rattle.model.specs.Coordinates.{coord};

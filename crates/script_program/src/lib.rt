@@ -1,5 +1,7 @@
 // A script program: standard input to standard output. Nothing here says what is read or written; what a
 // script's replies are is the contract of script::answer.
+#![tactic(auto)]
+
 use script_lines::Language;
 
 // Reads a script in a language from standard input and writes its replies to standard output. There is room

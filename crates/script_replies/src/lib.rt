@@ -1,5 +1,7 @@
 // A reply as text: letter, refusal, values; numbers decimal, pointers in lower-case hex. Each function writes
 // from a place of the buffer on and answers the place after; what the buffer has no room for is left out.
+#![tactic(auto)]
+
 ghost use Rattle.std.specs.Prelude.{◌≤◌, length};
 ghost use Rattle.model.specs.Replies.{ran_values, progress_values, view_values, verdict_values, response};
 ghost use Rattle.script_numerals.specs.Numerals.{Wrote};

@@ -1,5 +1,7 @@
 // What a script has said so far: the session that its lines leave, and what each line comes to.
 // specs/SessionState.antt has what a line does.
+#![tactic(auto)]
+
 ghost use Rattle.std.specs.Prelude.{◌≡◌, min, length};
 ghost use Rattle.io.specs.Counts.{IsPrefixLen};
 ghost use Rattle.script_session.specs.SessionState.{new_session, line_step, with_console};
@@ -17,7 +19,7 @@ pub const MOST_PANES: usize = 8;
 
 // The console record as far as the lines have filled it, whether an `s` was taken, whether an `o` was
 // accepted, and the bytes that the screen's rows and the stores take.
-#[derive(Drop)]
+#[derive(Clone, Copy)]
 pub struct Session {
     pub console: Console,
     pub sized: bool,
@@ -27,7 +29,7 @@ pub struct Session {
 }
 
 // What a line comes to: a ?, nothing to print, or a letter's reply.
-#[derive(Drop)]
+#[derive(Clone, Copy)]
 pub enum LineAnswer {
     Malformed,
     Taken,
@@ -35,7 +37,7 @@ pub enum LineAnswer {
 }
 
 // The session after a line, and what the line comes to.
-#[derive(Drop)]
+#[derive(Clone, Copy)]
 pub struct LineStep {
     pub session: Session,
     pub answer: LineAnswer,

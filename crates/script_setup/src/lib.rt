@@ -1,4 +1,6 @@
 // The lines before the calls obeyed: `s`, the screen; `p`, a pane; `o`, set-up.
+#![tactic(auto)]
+
 ghost use Rattle.std.specs.Prelude.{◌≡◌, false, List, ℕ, ◌*◌};
 ghost use Rattle.model.specs.Setup.{screen_bytes};
 ghost use Rattle.model.specs.Replies.{response};

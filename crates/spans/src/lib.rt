@@ -1,5 +1,7 @@
 // Horizontal runs of pixels (02, A.3), called spans here, since `run` is a call: which of their pixels lie in
 // bitmap and clip is worked out first, once a span.
+#![tactic(auto)]
+
 ghost use Rattle.std.specs.Prelude.{◌≡◌, cond, ◌+◌, ◌-◌, ◌*◌, ◌<◌, ◌≤◌, length};
 ghost use Rattle.model.specs.Bitmaps.{Depth};
 ghost use Rattle.raster.specs.Operations.{truth_of};
@@ -19,7 +21,7 @@ use strips::inks::{back_of, fore_of};
 
 // A span: its first pixel at (x,y), whether it goes to the left, how many pixels it has, and the pattern index
 // of the first. x and y are 65,536 more than the coordinates, so that none is negative.
-#[derive(Drop)]
+#[derive(Clone, Copy)]
 pub struct Span {
     pub x: usize,
     pub y: usize,

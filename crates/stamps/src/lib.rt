@@ -1,5 +1,7 @@
 // Pixels one by one, without a sum for each: what a pen makes of the byte that holds a pixel is worked out once a
 // command, for each place that a pixel has in its word, and a pixel is then one byte mixed.
+#![tactic(auto)]
+
 ghost use Rattle.std.specs.Prelude.{◌≡◌, ◌+◌, ◌≤◌, ◌<◌, length};
 ghost use Rattle.model.specs.Bitmaps.{Depth};
 ghost use Rattle.raster.specs.Operations.{truth_of};

@@ -7,7 +7,7 @@ ghost use Rattle.stencils.specs.Stencils.{FourMixed};
 use strips::weaves::put;
 
 // Four words become (old & keep) ^ flip.
-#[derive(Drop)]
+#[derive(Clone, Copy)]
 pub struct WideInk {
     pub keep: u64,
     pub flip: u64,

@@ -1,5 +1,7 @@
 // A row of at most sixteen cells drawn through two inks, four words at a time: the words beside the cells, which lie
 // under no cover, are read and written as they are. The caller sees to it that the buffer has them.
+#![tactic(auto)]
+
 pub mod covers; // covers.rt: which bits of four words are drawn
 pub mod fours; // fours.rt: four words of a buffer mixed under a cover
 
@@ -17,7 +19,7 @@ use strips::weaves::four;
 // Where cells lie in a row, and what they are drawn with: the first word of the row, the bits of cells from `lead` to
 // below `end`, from the left of that word, the pattern's index at that word's first pixel, and the inks of 1s and of
 // 0s. The covers of the first four words, the next four and those after them follow from that.
-#[derive(Drop)]
+#[derive(Clone, Copy)]
 pub struct Stencil {
     pub bits: usize,
     pub word: usize,

@@ -8,8 +8,7 @@ use native.Mathlib.Omega.{arith}
 use native.Mathlib.Decide.{dec_lt}
 use native.Mathlib.Nat.{mul-le-mul_right, div-add-mod', mod-lt}
 use lib.Arith.{digits_div}
-use lib.ListN.{length}
-use Rattle.model.specs.Words.{within, bit_at}
+use Rattle.model.specs.Words.{bit_at}
 use Rattle.model.specs.Bitmaps.{grid_bit, place_bit, place_shift, Depth, Fits}
 use Rattle.model.specs.declared.Surface.{Surface}
 use Rattle.model.specs.declared.Pen.{Pen}
@@ -214,7 +213,7 @@ module _ (u : Surface) (x y n N : ℕ) {f : Strokes} {which : ℕ → ℕ} (al :
         → Stretched g o lo (lo + n * u.bits) old new
     drawn_stretched {pen} {new} g h e = record {
       length = h.length;
-      inside = λ m i. let w = found m i in rw w.here (at w.q w.j w.q-lt w.j-lt);
+      inside = λ m i. let w = found m i in rw w.here (at w.q w.j w.q_lt w.j_lt);
       outside = λ m i. h.outside m λ p l k. rw (column_of_lem p l k, row_of p l k) (beside m (al.back p l k) (al.within p l k) i);
     }
       where

@@ -8,14 +8,14 @@ use raster::Truth;
 use raster::operations::{half_of, mux, operate};
 
 // A byte becomes (old & keep) ^ flip.
-#[derive(Drop)]
+#[derive(Clone, Copy)]
 pub struct Mix {
     pub keep: u8,
     pub flip: u8,
 }
 
 // A word becomes (old & keep) ^ flip.
-#[derive(Drop)]
+#[derive(Clone, Copy)]
 pub struct Ink {
     pub keep: u16,
     pub flip: u16,

@@ -1,5 +1,7 @@
 // Straight lines of pixels, sloped or upright: which of their pixels lie in bitmap and clip is worked out first, and
 // these are stamped one after another.
+#![tactic(auto)]
+
 pub mod slopes; // slopes.rt: the axes of a line, and the minor offset of its pixels
 pub mod edges; // edges.rt: which pixels lie in the clip
 pub mod walks; // walks.rt: the visible pixels, from one to the next
@@ -23,7 +25,7 @@ use walks::walk;
 
 // A line's pixels from pixel `first` on, which takes pattern index `index`. The line begins at (x,y); these are 65,536
 // more than the coordinates, so that none is negative.
-#[derive(Drop)]
+#[derive(Clone, Copy)]
 pub struct Trace {
     pub x: usize,
     pub y: usize,

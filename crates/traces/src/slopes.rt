@@ -5,7 +5,7 @@ ghost use Rattle.traces.specs.Slopes.{Sloped, Reaches, SlopeAt};
 
 // The axes of a line: the larger magnitude goes along the major axis, which is x if level, and the smaller
 // along the minor.
-#[derive(Drop)]
+#[derive(Clone, Copy)]
 pub struct Axes {
     pub level: bool,
     pub larger: usize,
@@ -13,7 +13,7 @@ pub struct Axes {
 }
 
 // The minor offset of a pixel, and the rest of its division.
-#[derive(Drop)]
+#[derive(Clone, Copy)]
 pub struct Slope {
     pub at: usize,
     pub rest: usize,

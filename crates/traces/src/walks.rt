@@ -17,7 +17,7 @@ use std::num::{wrapping_add_usize, wrapping_sub_usize};
 // The two steps of a line, in bits from pixel to pixel: along the major axis, or along both. The rest of a pixel's
 // minor offset tells which: below `over` the step is straight and the rest becomes larger by `rise`, else smaller by
 // `over`. A step back wraps.
-#[derive(Drop)]
+#[derive(Clone, Copy)]
 pub struct Steps {
     pub straight: usize,
     pub diagonal: usize,
@@ -26,7 +26,7 @@ pub struct Steps {
 }
 
 // Where a pixel of a line lies: the bits of the surface's words before it, and the rest of its minor offset.
-#[derive(Drop)]
+#[derive(Clone, Copy)]
 pub struct Spot {
     pub bit: usize,
     pub rest: usize,

@@ -1,13 +1,15 @@
 // Runs the scripts under data/ and holds what each prints to what it must print. The arguments are the names
 // of files in pairs: a script, and its replies. Nothing here says what is read or written; what a script's
 // replies are is the contract of script::answer.
+#![tactic(auto)]
+
 ghost use Rattle.std.specs.Prelude.{◌+◌, ◌<◌, ◌^◌};
 ghost use Rattle.io.specs.Counts.{IsPrefixLen};
 
 use libc::STDOUT_FILENO;
 
 // A file: whether it is there, and how many bytes it has.
-#[derive(Drop)]
+#[derive(Clone, Copy)]
 struct File {
     found: bool,
     length: usize,
@@ -15,7 +17,7 @@ struct File {
 
 // How a script went: a file is missing, the replies differ, there is no script and there are no replies, or
 // they are as expected.
-#[derive(Drop)]
+#[derive(Clone, Copy)]
 enum Comparison {
     Missing,
     Differs,

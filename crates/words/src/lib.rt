@@ -1,4 +1,6 @@
 // Words and bits of a store, and plain choices between two numbers: leaves that know no pixel and no command.
+#![tactic(auto)]
+
 ghost use Rattle.std.specs.Prelude.{◌≡◌, cond, ◌+◌, ◌<◌, length};
 ghost use Rattle.model.specs.Words.{bit, word_at};
 

@@ -1,0 +1,43 @@
+-- `draw_arrays::scan_lines` meets its contract. The loop's invariant: what is left from triple k on, drawn from the position on what the
+-- buffers are now, gives the whole; the trap flag is not set; and the array lies in the store, where it reads as it did at entry.
+use mathlib.Core.Path.{◌≡◌, refl, ◌∙◌}
+use mathlib.Core.Bool.{false}
+use Prim.Native.Nat.{◌+◌, ◌-◌, ◌*◌, ◌≤◌}
+use native.Mathlib.Omega.{arith}
+use borrow.Author.Rules.{rules}
+use lib.ListN.{length}
+use Rattle.model.specs.Lines.{triples_at, scan_lines}
+use Rattle.canvas.specs.Canvas.{canvas}
+use Rattle.canvas.proofs.LoopLaws.{Underway, underway_ready, underway_word}
+use Rattle.traces.specs.Slopes.{longest_line}
+use Rattle.draw_lines.specs.Segments.{whole_line}
+use Rattle.canvas.proofs.ReachLaws.{reach_room}
+use Rattle.draw_arrays.proofs.ArrayLaws.{underway_segment, items_left, items_first, items_last, triple_at, triple_same, scan_lines_next}
+use Rattle.draw_arrays.proofs.scan_lines.Goals as goal
+
+pub loop-k-init : goal.loop-k-init
+unfolding triples_at
+loop-k-init c =
+    let a = c.args in
+    (items_first (scan_lines a.t.pen) _ a.n a.t a.screen.now a.store.now a.from, refl, reach_room c.requires.2)
+
+pub loop-k-preserved : goal.loop-k-preserved
+loop-k-preserved c =
+    let a = c.args in
+    let at = a.array + 6 * c.loop-k.k in
+    let same = underway_word c.loop-k.invariant.0 c.requires.2 in
+    let read = triple_same c.loop-k.store a.store.now at (λ j lo hi. same j (omega arith) (omega arith)) in (
+      underway_segment c.loop-k.invariant.0 c.requires.0 c.loop-k.invariant.1 c.loop-k-test.true _
+          c.scan-d.result.position (whole_line c.triple_at-s.result.len 0)
+          (scan_lines_next a.t.pen a.store.now a.array a.n c.loop-k.k c.loop-k.d.position _ c.triple_at-s.result c.loop-k-test.true
+          (c.triple_at-s.ensures ∙ read) c.scan-d.ensures.position)
+          c.scan-d.ensures,
+      c.scan-d.ensures.trap,
+      c.loop-k.invariant.2,
+    )
+
+pub returns : goal.returns
+unfolding scan_lines
+returns c =
+    let a = c.args in
+    items_last (scan_lines a.t.pen) (triple_at a.store.now a.array) a.n c.loop-k.invariant.0 c.loop-k-test.false refl

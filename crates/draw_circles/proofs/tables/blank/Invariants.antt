@@ -1,0 +1,19 @@
+-- `draw_circles::tables::blank` meets its contract. The loop's invariant: the bytes before i are 255, all others 0.
+use mathlib.Core.Path.{◌≡◌, ap, ◌∙◌}
+use mathlib.Core.List.{List, ◌++◌}
+use Prim.Native.Nat.{ℕ, ◌-◌, ◌≤◌}
+use native.Mathlib.Omega.{arith}
+use borrow.Author.Fill.{fill_none, fill_more}
+use borrow.Author.Rules.{rules}
+use lib.ListN.{length, drop, replicate, set}
+use Rattle.draw_circles.proofs.TableLaws.{blank_is}
+use Rattle.draw_circles.proofs.tables.blank.Given as goal
+
+abbrev filled : ℕ → List ℕ
+filled i = replicate i 255 ++ drop i (replicate 64 0)
+
+abbrev pub invariant-loop-i : goal.invariant-loop-i
+invariant-loop-i l = (l.i ≤ 32) × (l.stamps ≡ filled l.i)
+
+abbrev pub decreases-loop-i : goal.decreases-loop-i
+decreases-loop-i l = 32 - l.i

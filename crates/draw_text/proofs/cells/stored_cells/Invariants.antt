@@ -1,0 +1,11 @@
+-- `draw_text::cells::stored_cells` meets its contract. The loop's invariant: the rows so far are read.
+use Rattle.std.proofs.Common.{◌≡◌, ℕ, ◌-◌, ◌≤◌, length, refl, ◌∙◌, subst, arith, length-set, rules}
+use Rattle.draw_text.specs.Cells.{CellsOf, StoredCells}
+use Rattle.draw_text.proofs.CellLaws.{stored_none, stored_next}
+use Rattle.draw_text.proofs.cells.stored_cells.Given as goal
+
+abbrev pub invariant-loop-number : goal.invariant-loop-number
+invariant-loop-number l = StoredCells l.store l.at l.width l.number l.cells × (l.number ≤ l.height) × (length l.cells ≡ 16)
+
+abbrev pub decreases-loop-number : goal.decreases-loop-number
+decreases-loop-number l = l.height - l.number

@@ -1,0 +1,19 @@
+-- `draw_text::rows::draw_rows` meets its contract. The loop's invariant: the rows so far are drawn, whatever grid they are of.
+use Rattle.std.proofs.Common.{◌≡◌, ◌-◌, ◌≤◌, length, refl, ◌∙◌, arith, rules}
+use Rattle.model.specs.Pixels.{changes}
+use Rattle.model.specs.Dots.{changes_of}
+use Rattle.strips.proofs.FieldBits.{Bytes}
+use Rattle.canvas.specs.Targets.{Ready}
+use Rattle.draw_text.specs.declared.cells.Grid.{Grid}
+use Rattle.draw_text.specs.Cells.{grid_row, rows_from}
+use Rattle.draw_text.specs.Rows.{Planned, RowsMet}
+use Rattle.draw_text.proofs.RowLaws.{row_drawn, row_in, changes_none, changes_next}
+use Rattle.draw_text.proofs.rows.draw_rows.Given as goal
+
+abbrev pub invariant-loop-number : goal.invariant-loop-number
+invariant-loop-number l = ((g : Grid) → g.width ≡ l.plan.span.count → RowsMet l.plan.span.left g.cells l.met
+    → l.buf ≡ changes l.t.area.surface (changes_of l.t.area.surface l.t.clip l.t.pen (rows_from l.t.pen l.style g l.f.first (l.number - l.f.first))) l.initial.buf)
+    × (length l.buf ≡ length l.initial.buf) × Bytes l.buf × (l.f.first ≤ l.number) × (l.number ≤ l.f.second)
+
+abbrev pub decreases-loop-number : goal.decreases-loop-number
+decreases-loop-number l = l.f.second - l.number

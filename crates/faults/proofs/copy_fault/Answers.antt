@@ -1,0 +1,15 @@
+-- The rule first; then the rectangle on the source's surface, which that rule makes readable; last the bytes in common.
+use mathlib.Core.Path.{sym, ap, ◌∙◌}
+use mathlib.Core.Bool.{Bool, cond}
+use Rattle.model.specs.Numbers.{fault_copy}
+use Rattle.bitmaps.proofs.AreaLaws.{placed_sizes}
+use Rattle.faults.proofs.CopyLaws.{source_readable, copy_fault_block, copy_fault_sharing}
+use borrow.Author.Rules.{rules}
+use Rattle.faults.proofs.copy_fault.Goals as goal
+
+pub sharing-shared-requires : goal.sharing-shared-requires
+sharing-shared-requires c = (
+  source_readable _ _ _ _ c.requires.0 c.requires.1
+      c.surface_of-s.ensures (sym c.rule_broken.ensures ∙ c.if-rule_broken.false),
+  sym c.block_bad.ensures ∙ c.if-block_bad.false,
+)

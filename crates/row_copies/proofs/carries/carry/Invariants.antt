@@ -1,0 +1,14 @@
+-- `carry` meets its contract: the bytes before i are carried.
+use mathlib.Core.Path.{◌≡◌, refl}
+use Prim.Native.Nat.{◌+◌, ◌-◌, ◌≤◌}
+use native.Mathlib.Omega.{arith}
+use Rattle.row_copies.specs.Rows.{Carried}
+use Rattle.row_copies.proofs.CarryLaws.{carried_none, carried_byte, carried_then}
+use borrow.Author.Rules.{rules}
+use Rattle.row_copies.proofs.carries.carry.Given as goal
+
+abbrev pub invariant-loop-i : goal.invariant-loop-i
+invariant-loop-i l = Carried l.at l.from l.i l.src l.initial.dst l.dst × (l.i ≤ l.n)
+
+abbrev pub decreases-loop-i : goal.decreases-loop-i
+decreases-loop-i l = l.n - l.i

@@ -1,0 +1,17 @@
+-- `put8` meets its contract: the words before j are put.
+use mathlib.Core.Path.{◌≡◌}
+use Prim.Native.Nat.{◌+◌, ◌-◌, ◌*◌, ◌≤◌}
+use native.Mathlib.Omega.{arith}
+use lib.ListN.{length-set}
+use Rattle.row_copies.specs.Chunks.{Put8}
+use Rattle.row_copies.proofs.ChunkLaws.{put8_next, put8_none}
+use borrow.Author.Rules.{rules}
+use Rattle.row_copies.proofs.chunks.put8.Goals as goal
+
+pub loop-j-preserved : goal.loop-j-preserved
+loop-j-preserved c =
+    let a = c.args in (
+      put8_next a.at a.t c.loop-j.j a.buf.now c.loop-j.buf c.loop-j.invariant.0 (omega (arith, c.loop-j.invariant.0.length))
+          c.half_of.ensures c.half_of-in-loop-j.ensures,
+      omega arith,
+    )

@@ -1,0 +1,15 @@
+-- `words_backward` meets its contract: whole chunks, and then what is left, word by word.
+use mathlib.Core.Path.{◌≡◌, ◌∙◌}
+use Prim.Native.Nat.{◌-◌, ◌*◌, ◌≤◌}
+use native.Mathlib.Omega.{arith}
+use Rattle.strips.specs.Stretches.{Stretched}
+use Rattle.row_copies.specs.Rows.{copied}
+use Rattle.row_copies.proofs.CopyLaws.{whole_word, stretched_none, stretched_ends, fit_slid, backward_next}
+use borrow.Author.Rules.{rules}
+use Rattle.row_copies.proofs.slides.words_backward.Given as goal
+
+abbrev pub invariant-loop-w : goal.invariant-loop-w
+invariant-loop-w l = Stretched (copied l.operator l.c l.initial.buf) l.c.row (16 * l.w) (16 * l.initial.w) l.initial.buf l.buf × (l.first ≤ l.w) × (l.w ≤ l.initial.w)
+
+abbrev pub decreases-loop-w : goal.decreases-loop-w
+decreases-loop-w l = l.w - l.first

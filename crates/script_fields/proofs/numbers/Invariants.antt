@@ -1,0 +1,18 @@
+-- The invariant: i numbers are read, and with those from number i on they are the line's.
+use mathlib.Core.Path.{◌≡◌, refl, sym, ◌∙◌}
+use mathlib.Core.List.{List}
+use Prim.Native.Nat.{ℕ, ◌-◌, ◌≤◌}
+use native.Mathlib.Omega.{arith}
+use lib.ListN.{length, take}
+use borrow.Author.Rules.{rules}
+use Rattle.script_fields.specs.Fields.{fields_of, line_numbers}
+use Rattle.script_fields.proofs.ReadingLaws.{prefixed, prefixed_none, prefixed_next, prefixed_bad, prefixed_end}
+use Rattle.script_fields.proofs.ReadingLaws.{numbers_from, line_numbers_all, line_numbers_other, numbers_from_next, numbers_from_end}
+use Rattle.script_fields.proofs.numbers.Given as goal
+
+abbrev pub invariant-loop-i : goal.invariant-loop-i
+invariant-loop-i l = (l.i ≤ l.count) × (length l.values ≡ 5)
+    × (prefixed (take l.i l.values) (numbers_from l.i l.bases l.count (fields_of l.line)) ≡ line_numbers l.fields (take l.count l.bases) (fields_of l.line))
+
+abbrev pub decreases-loop-i : goal.decreases-loop-i
+decreases-loop-i l = l.count - l.i
