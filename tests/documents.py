@@ -45,7 +45,7 @@ def compare_replies(where, said, found):
 def run(script, program="panes"):
     """The replies to the lines of a script."""
     text = "".join(line + "\n" for line in script)
-    done = subprocess.run([f"target/bin/{program}"], input=text.encode(), stdout=subprocess.PIPE)
+    done = subprocess.run([f"crates/{program}/out/{program}"], input=text.encode(), stdout=subprocess.PIPE)
     if done.returncode != 0:
         wrong.append(f"{program} failed with status {done.returncode} on {script[:3]} ..")
     return done.stdout.decode().splitlines()

@@ -5,10 +5,11 @@
 # usage: [FIRST=SEED] [LAST=SEED] tests/program.sh panes|calls
 cd "$(dirname "$0")/.." || exit 1
 name=$1
+program=crates/$name/out/$name
 tools/build "$name" || exit 1
 (cd reference && cargo build --release --offline --quiet) || exit 1
-tests/check.sh "$name" "target/bin/$name" || exit 1
+tests/check.sh "$name" "$program" || exit 1
 for script in tests/long/*.in; do
-    "target/bin/$name" <"$script" | cmp - "${script%.in}.out" || exit 1
+    "$program" <"$script" | cmp - "${script%.in}.out" || exit 1
 done
-tests/compare.sh "$name" "target/bin/$name" "${FIRST:-1}" "${LAST:-1000}"
+tests/compare.sh "$name" "$program" "${FIRST:-1}" "${LAST:-1000}"

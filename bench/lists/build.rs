@@ -15,7 +15,7 @@ fn main() {
 
 fn link_console() {
     println!("cargo:rerun-if-env-changed=BENCH_LIBRARY");
-    let library = env::var("BENCH_LIBRARY").unwrap_or("../../target/staticlib/libbench_console.a".into());
+    let library = env::var("BENCH_LIBRARY").unwrap_or("../../crates/bench_console/out/libbench_console.a".into());
     let library = PathBuf::from(library).canonicalize().expect("the console's library");
     println!("cargo:rerun-if-changed={}", library.display());
     let stem = library.file_stem().and_then(|stem| stem.to_str()).expect("a name");

@@ -2,6 +2,9 @@
 // clear, j for judge and t for switch.
 #![tactic(auto)]
 
-fn main() {
-    script_program::converse(script_lines::Language::Calls);
+use script_lines::Language;
+use std::io;
+
+fn main(rt: HostRuntime) -> io::Result<()> {
+    script_program::converse(&rt, Language::Calls)
 }

@@ -8,7 +8,6 @@ ghost use Rattle.model.specs.Lines.{rectangle};
 ghost use Rattle.canvas.specs.Canvas.{canvas, count_end, Drew, Painted};
 ghost use Rattle.canvas.specs.Targets.{Ready};
 ghost use Rattle.spans.specs.Spans.{longest_span, index_end};
-ghost use Rattle.stamps.specs.Stamps.{StampsOf};
 ghost use Rattle.draw_outlines.specs.Outlines.{longest_outline, outline_at, outline_dot, outline_length};
 ghost use Rattle.traces.specs.Slopes.{longest_line};
 ghost use Rattle.draw_outlines.specs.Outlines.{SideOf, TraceSideOf, UprightOf, Small};
@@ -17,7 +16,7 @@ use canvas::{Course, Drawn, Heading, Offset, Target};
 use model::Point;
 use spans::Span;
 use traces::slopes::Axes;
-use traces::{Trace, draw_trace};
+use traces::{Trace, lone_trace};
 
 // The length from which an outline's level sides are drawn as spans: shorter ones are drawn sooner dot by dot
 // than the strips of both are worked out.
@@ -195,16 +194,8 @@ fn draw_top(screen: &mut [u8], store: &mut [u8], t: Target, o: Outline) -> usize
 }
 
 // The second side drawn, stamped if it is long: hits and how many of its pixels are visible.
-fn draw_right(
-    screen: &mut [u8],
-    store: &mut [u8],
-    stamps: &[u8],
-    t: Target,
-    o: Outline,
-    hits: usize,
-) -> usize
-    requires { Ready t (length screen.old) (length store.old) × Small o × (hits + longest_span < count_end)
-        × StampsOf t.pen t.area.surface.bits stamps.now }
+fn draw_right(screen: &mut [u8], store: &mut [u8], t: Target, o: Outline, hits: usize) -> usize
+    requires { Ready t (length screen.old) (length store.old) × Small o × (hits + longest_span < count_end) }
     ensures { Painted t (listed (o.a + 1) o.b (outline_dot t.pen o))
         (canvas screen.old store.old hits) (canvas screen.new store.new result) }
 {
@@ -212,7 +203,7 @@ fn draw_right(
         return dotted(screen, store, t, o, o.a + 1, o.b, hits);
     }
     let side = right_side(o);
-    draw_trace(screen, store, stamps, t, side, hits)
+    lone_trace(screen, store, t, side, hits)
 }
 
 // The third side drawn, as a span if it is long: hits and how many of its pixels are visible.
@@ -229,16 +220,9 @@ fn draw_bottom(screen: &mut [u8], store: &mut [u8], t: Target, o: Outline, hits:
 }
 
 // The last side drawn, stamped if it is long: hits and how many of its pixels are visible.
-fn draw_left(
-    screen: &mut [u8],
-    store: &mut [u8],
-    stamps: &[u8],
-    t: Target,
-    o: Outline,
-    hits: usize,
-) -> usize
+fn draw_left(screen: &mut [u8], store: &mut [u8], t: Target, o: Outline, hits: usize) -> usize
     requires { Ready t (length screen.old) (length store.old) × Small o × (0 < o.b)
-        × (hits + longest_span < count_end) × StampsOf t.pen t.area.surface.bits stamps.now }
+        × (hits + longest_span < count_end) }
     ensures { Painted t (listed (o.a + o.b + 1 + o.a) (o.b - 1) (outline_dot t.pen o))
         (canvas screen.old store.old hits) (canvas screen.new store.new result) }
 {
@@ -246,53 +230,28 @@ fn draw_left(
         return dotted(screen, store, t, o, o.a + o.b + 1 + o.a, o.b - 1, hits);
     }
     let side = left_side(o);
-    draw_trace(screen, store, stamps, t, side, hits)
+    lone_trace(screen, store, t, side, hits)
 }
 
 // The first two sides, to the corner across: how many of their pixels are visible.
-fn way_out(screen: &mut [u8], store: &mut [u8], stamps: &[u8], t: Target, o: Outline) -> usize
-    requires { Ready t (length screen.old) (length store.old) × Small o
-        × StampsOf t.pen t.area.surface.bits stamps.now }
+fn way_out(screen: &mut [u8], store: &mut [u8], t: Target, o: Outline) -> usize
+    requires { Ready t (length screen.old) (length store.old) × Small o }
     ensures { Painted t (listed 0 (o.a + o.b + 1) (outline_dot t.pen o))
         (canvas screen.old store.old 0) (canvas screen.new store.new result) }
 {
     let hits = draw_top(screen, store, t, o);
-    draw_right(screen, store, stamps, t, o, hits)
+    draw_right(screen, store, t, o, hits)
 }
 
 // The other two sides, without the corner where the outline began: hits and how many of their pixels are visible.
-fn way_back(
-    screen: &mut [u8],
-    store: &mut [u8],
-    stamps: &[u8],
-    t: Target,
-    o: Outline,
-    hits: usize,
-) -> usize
+fn way_back(screen: &mut [u8], store: &mut [u8], t: Target, o: Outline, hits: usize) -> usize
     requires { Ready t (length screen.old) (length store.old) × Small o × (0 < o.a) × (0 < o.b)
-        × (hits + longest_outline < count_end) × StampsOf t.pen t.area.surface.bits stamps.now }
+        × (hits + longest_outline < count_end) }
     ensures { Painted t (listed (o.a + o.b + 1) (o.a + o.b - 1) (outline_dot t.pen o))
         (canvas screen.old store.old hits) (canvas screen.new store.new result) }
 {
     let seen = draw_bottom(screen, store, t, o, hits);
-    draw_left(screen, store, stamps, t, o, seen)
-}
-
-// The whole outline by its sides, the upright ones by the same stamps: how many of its pixels are visible.
-fn draw_sides(screen: &mut [u8], store: &mut [u8], stamps: &[u8], t: Target, o: Outline) -> usize
-    requires { Ready t (length screen.old) (length store.old) × Small o
-        × StampsOf t.pen t.area.surface.bits stamps.now }
-    ensures { Painted t (listed 0 (outline_length o.a o.b) (outline_dot t.pen o))
-        (canvas screen.old store.old 0) (canvas screen.new store.new result) }
-{
-    let hits = way_out(screen, store, stamps, t, o);
-    if o.a == 0 {
-        return hits;
-    }
-    if o.b == 0 {
-        return hits;
-    }
-    way_back(screen, store, stamps, t, o, hits)
+    draw_left(screen, store, t, o, seen)
 }
 
 // The whole outline, dot by dot if it is small and else by its sides: how many of its pixels are visible.
@@ -301,12 +260,20 @@ fn draw_outline(screen: &mut [u8], store: &mut [u8], t: Target, o: Outline) -> u
     ensures { Painted t (listed 0 (outline_length o.a o.b) (outline_dot t.pen o))
         (canvas screen.old store.old 0) (canvas screen.new store.new result) }
 {
-    if (o.a < SHORTEST_SIDE) & (o.b < SHORTEST_UPRIGHT) {
-        let n = outline_length(o.a, o.b);
-        return dotted(screen, store, t, o, 0, n, 0);
+    if o.a < SHORTEST_SIDE {
+        if o.b < SHORTEST_UPRIGHT {
+            let n = outline_length(o.a, o.b);
+            return dotted(screen, store, t, o, 0, n, 0);
+        }
     }
-    let stamps = traces::stamps_of(t);
-    draw_sides(screen, store, &stamps, t, o)
+    let hits = way_out(screen, store, t, o);
+    if o.a == 0 {
+        return hits;
+    }
+    if o.b == 0 {
+        return hits;
+    }
+    way_back(screen, store, t, o, hits)
 }
 
 // RECT by (dx,dy): the position stays.

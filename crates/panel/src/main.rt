@@ -3,6 +3,7 @@
 #![tactic(auto)]
 
 use model::{Console, Geometry, Reply, Row};
+use std::io;
 
 // README: begin
 // A screen of 16 by 8 pixels of one bit, with one pane over all of it and a store of 64 bytes.
@@ -39,24 +40,17 @@ fn draw(screen: &mut [u8], stores: &mut [u8]) -> Reply {
     ran.reply
 }
 
-fn tell(reply: Reply) {
+fn tell(rt: &impl Print, reply: Reply) -> io::Result<()> {
     match reply {
-        Reply::Ran(ran) => print(b"commands done: ", ran.commands),
-        Reply::Refused(number) => print(b"refused: ", number as u32),
-        _ => print(b"another reply: ", 0),
+        Reply::Ran(ran) => println!(rt; "commands done: {}", ran.commands),
+        Reply::Refused(number) => println!(rt; "refused: {number}"),
+        _ => println!(rt; "another reply: 0"),
     }
 }
 // README: end
 
-// Words and a number, on a line.
-fn print(words: &[u8], number: u32) {
-    io::write_all(libc::STDOUT_FILENO, words);
-    io::print_decimal(libc::STDOUT_FILENO, number as u64);
-    io::write_all(libc::STDOUT_FILENO, b"\n");
-}
-
-fn main() {
+fn main(rt: HostRuntime) -> io::Result<()> {
     let mut screen = [0u8; 16];
     let mut stores = [0u8; 64];
-    tell(draw(&mut screen, &mut stores));
+    tell(&rt, draw(&mut screen, &mut stores))
 }

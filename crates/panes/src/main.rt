@@ -1,6 +1,9 @@
 // The script program of paper 01.
 #![tactic(auto)]
 
-fn main() {
-    script_program::converse(script_lines::Language::Panes);
+use script_lines::Language;
+use std::io;
+
+fn main(rt: HostRuntime) -> io::Result<()> {
+    script_program::converse(&rt, Language::Panes)
 }

@@ -3,17 +3,18 @@
 // replies are is the contract of script::answer.
 #![tactic(auto)]
 
-ghost use Rattle.std.specs.Prelude.{◌+◌, ◌<◌, ◌^◌};
-ghost use Rattle.io.specs.Counts.{IsPrefixLen};
+ghost use Rattle.std.specs.Prelude.{◌+◌, ◌<◌, ◌≤◌, ◌^◌, length, IfOk, IfSome};
 
-use libc::STDOUT_FILENO;
+use script_lines::Language;
+use std::env::FillError;
+use std::rt::{Env, Files};
+use std::{fmt, fs, io, str};
 
-// A file: whether it is there, and how many bytes it has.
-#[derive(Clone, Copy)]
-struct File {
-    found: bool,
-    length: usize,
-}
+// Room for any path.
+const MOST_NAME: usize = 4096;
+
+// Room for a script, or for what one prints.
+const MOST_FILE: usize = 65536;
 
 // How a script went: a file is missing, the replies differ, there is no script and there are no replies, or
 // they are as expected.
@@ -25,90 +26,99 @@ enum Comparison {
     Expected,
 }
 
-// The file that argument k names, at the start of a buffer.
-fn read_file(k: usize, buffer: &mut [u8]) -> File
-    ensures { IsPrefixLen result.length buffer.new }
-{
-    let mut name = io::buffer();
-    let length = os::arg(k, &mut name);
-    let file = os::open_read(&name[..length]);
-    if file < 0 {
-        return File {
-            found: false,
-            length: 0,
-        };
+impl fmt::Display for Comparison {
+    fn fmt<W: fmt::Write>(&self, f: &mut fmt::Formatter<W>) -> fmt::Result {
+        f.write_str(match self {
+            Comparison::Missing => "missing",
+            Comparison::Differs => "differs",
+            Comparison::Empty => "empty, as expected",
+            Comparison::Expected => "as expected",
+        })
     }
-    let n = io::read_full(file, buffer);
-    libc::close(file);
-    File {
-        found: true,
-        length: n,
+}
+
+// Puts argument k at the start of a buffer, and answers how many bytes it has: none where it is absent, or
+// longer than the buffer.
+fn argument<R: Env>(rt: &R, k: usize, buffer: &mut [u8]) -> usize
+    ensures { result ≤ length buffer.new }
+{
+    rt.arg(k, buffer).unwrap_or(0)
+}
+
+// Puts the file that argument k names at the start of a buffer, and answers how many bytes it has: nothing
+// where there is no such file.
+fn read_file<R: Env + Files>(rt: &R, k: usize, buffer: &mut [u8]) -> io::Result<Option<usize>>
+    ensures { IfOk result (λ file. IfSome file (λ n. n ≤ length buffer.new)) }
+{
+    let mut name = [0u8; MOST_NAME];
+    let length = argument(rt, k, &mut name);
+    let Ok(path) = str::from_utf8(&name[..length]) else {
+        return Ok(None);
+    };
+    match fs::open(rt, path) {
+        Ok(mut file) => Ok(Some(script_program::read_full(&mut file, buffer)?)),
+        Err(_) => Ok(None),
     }
 }
 
 // Whether the script that argument k names prints what the file after it has.
-fn comparison_of(k: usize) -> Comparison
+fn comparison_of<R: Env + Files>(rt: &R, k: usize) -> io::Result<Comparison>
     requires { k + 1 < 2 ^ 64 }
 {
-    let mut script = io::large_buffer();
-    let read = read_file(k, &mut script);
-    let mut expected = io::large_buffer();
-    let due = read_file(k + 1, &mut expected);
-    if !(read.found & due.found) {
-        return Comparison::Missing;
-    }
-    let n = read.length;
-    let m = due.length;
+    let mut script = [0u8; MOST_FILE];
+    let read = read_file(rt, k, &mut script)?;
+    let mut expected = [0u8; MOST_FILE];
+    let due = read_file(rt, k + 1, &mut expected)?;
+    let (Some(n), Some(m)) = (read, due) else {
+        return Ok(Comparison::Missing);
+    };
     let mut replies = script::room();
-    let written = script::answer(script_lines::Language::Panes, &script[..n], &mut replies);
-    if !check::same(&replies[..written], &expected[..m]) {
-        return Comparison::Differs;
+    let written = script::answer(Language::Panes, &script[..n], &mut replies);
+    if replies[..written] != expected[..m] {
+        return Ok(Comparison::Differs);
     }
     if n + m == 0 {
-        return Comparison::Empty;
+        return Ok(Comparison::Empty);
     }
-    Comparison::Expected
+    Ok(Comparison::Expected)
 }
 
 // Runs one script, and writes its name and how it went.
-fn compare(k: usize)
+fn compare<R: Env + Files + Print>(rt: &R, k: usize) -> io::Result<()>
     requires { k + 1 < 2 ^ 64 }
 {
-    let mut name = io::buffer();
-    let length = os::arg(k, &mut name);
-    io::write_all(STDOUT_FILENO, &name[..length]);
-    let found = comparison_of(k);
-    match found {
-        Comparison::Missing => {
-            io::write_all(STDOUT_FILENO, b": missing\n");
-        }
-        Comparison::Differs => {
-            io::write_all(STDOUT_FILENO, b": differs\n");
-        }
-        Comparison::Empty => {
-            io::write_all(STDOUT_FILENO, b": empty, as expected\n");
-        }
-        Comparison::Expected => {
-            io::write_all(STDOUT_FILENO, b": as expected\n");
+    let mut name = [0u8; MOST_NAME];
+    let length = argument(rt, k, &mut name);
+    rt.write_all(&name[..length])?;
+    let found = comparison_of(rt, k)?;
+    println!(rt; ": {found}")
+}
+
+// How many arguments there are, the program's own name among them.
+fn argument_count<R: Env>(rt: &R) -> usize {
+    let mut name = [0u8; MOST_NAME];
+    for k in 0..usize::MAX {
+        if let Err(FillError::NotPresent) = rt.arg(k, &mut name) {
+            return k;
         }
     }
+    usize::MAX
 }
 
 // Of so many arguments, the program's own name among them, the last is a script without its replies if their
 // number is even.
-fn compare_last(count: usize) {
+fn compare_last<R: Print>(rt: &R, count: usize) -> io::Result<()> {
     if count % 2 == 0 {
-        io::write_all(STDOUT_FILENO, b"a script without its replies\n");
+        println!(rt; "a script without its replies")?;
     }
+    Ok(())
 }
 
 // Runs the scripts that the arguments name, two arguments each; the first argument is the program's own name.
-fn main() {
-    let count = os::arg_count();
-    let mut done = 0;
-    while done < count / 2 {
-        compare(2 * done + 1);
-        done += 1;
+fn main(rt: HostRuntime) -> io::Result<()> {
+    let count = argument_count(&rt);
+    for done in 0..count / 2 {
+        compare(&rt, 2 * done + 1)?;
     }
-    compare_last(count);
+    compare_last(&rt, count)
 }

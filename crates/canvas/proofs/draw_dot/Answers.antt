@@ -2,7 +2,6 @@
 use mathlib.Core.Path.{sym, ◌∙◌}
 use Rattle.model.specs.Coordinates.{at}
 use Rattle.model.specs.Dots.{dot}
-
 use Rattle.canvas.specs.Canvas.{canvas, painted}
 use Rattle.canvas.proofs.TargetLaws.{index_clipped, painted_outside_x, painted_outside_y}
 use Rattle.canvas.proofs.draw_dot.Goals as goal

@@ -1,6 +1,5 @@
 -- `canvas::target_of` meets its contract: each part is read from the record.
 use Rattle.canvas.specs.Targets.{target_of}
-use borrow.Author.Rules.{rules}
 use Rattle.canvas.proofs.target_of.Goals as goal
 
 pub returns : goal.returns

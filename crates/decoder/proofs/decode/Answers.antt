@@ -1,15 +1,12 @@
 -- The tests come in the order of the definition: pointer, end bit, opcode, parameter words. Past the first two (`fetched`) what is left is
 -- `fetch` of the opcode's shape, and the shape's number of words is the command's own (`opcode_of_count`).
-use Prim.Native.Nat.{ℕ, ◌+◌, ◌/◌, ◌%◌, ◌≤◌}
+use Prim.Native.Nat.{ℕ, ◌/◌}
 use native.Mathlib.Omega.{arith}
 use mathlib.Core.List.{List}
 use mathlib.Core.Path.{◌≡◌, sym, ◌∙◌}
-use lib.Dec.{eqb, ltb}
 use lib.ListN.{length}
-use borrow.Author.Rules.{rules}
-use borrow.Author.Tests.{lt-ltb, le-ltb, ltb-false}
+use borrow.Author.Tests.{lt-ltb, le-ltb}
 use Rattle.model.specs.Commands.{opcode_of, fetch, decode}
-use Rattle.model.proofs.Decisions.{either_false}
 use Rattle.decoder.proofs.OpcodeLaws.{opcode_of_count}
 use Rattle.decoder.proofs.decode.Goals as goal
 use Rattle.decoder.proofs.decode.Goals.{Else-ends}

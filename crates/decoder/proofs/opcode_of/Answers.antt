@@ -1,6 +1,6 @@
 -- The match on the opcode number answers what the table of the definitions does: a single opcode by computation, a range by its few numbers,
 -- and where nothing matched, each gap between two ranges by a computed test.
-use Prim.Native.Nat.{ℕ, ◌%◌, ◌≤◌}
+use Prim.Native.Nat.{ℕ, ◌%◌}
 use native.Mathlib.Omega.{arith}
 use borrow.Author.Rules.{rules}
 use mathlib.Core.Path.{◌≡◌, refl, sym}

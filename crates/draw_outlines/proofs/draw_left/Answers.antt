@@ -7,4 +7,4 @@ use Rattle.draw_outlines.proofs.draw_left.Goals as goal
 pub returns : goal.returns
 returns c =
     let a = c.args in
-    trace_painted a.t a.o (a.o.a + a.o.b + 1 + a.o.a) (a.o.b - 1) _ c.left_side-side.ensures c.draw_trace.ensures
+    trace_painted a.t a.o (a.o.a + a.o.b + 1 + a.o.a) (a.o.b - 1) _ c.left_side-side.ensures c.lone_trace.ensures

@@ -7,4 +7,4 @@ use Rattle.draw_outlines.proofs.draw_right.Goals as goal
 pub returns : goal.returns
 returns c =
     let a = c.args in
-    trace_painted a.t a.o (a.o.a + 1) a.o.b _ c.right_side-side.ensures c.draw_trace.ensures
+    trace_painted a.t a.o (a.o.a + 1) a.o.b _ c.right_side-side.ensures c.lone_trace.ensures

@@ -16,7 +16,6 @@ draw_left-requires c =
       c.requires.1,
       c.requires.3,
       omega (arith, rw listed_length at (hits_painted t _ _ e), c.requires.1.a, c.requires.1.b, c.requires.4),
-      c.requires.5,
     )
 
 pub returns : goal.returns

@@ -15,7 +15,6 @@ draw_right-requires c =
       ready_painted t _ _ e c.requires.0,
       c.requires.1,
       omega (arith, rw listed_length at (hits_painted t _ _ e), c.requires.1.a, c.requires.1.b),
-      c.requires.2,
     )
 
 pub returns : goal.returns

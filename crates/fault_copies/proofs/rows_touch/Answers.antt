@@ -5,14 +5,13 @@ use mathlib.Core.Bool.{Bool}
 use Prim.Native.Nat.{ℕ, suc, ◌+◌, ◌-◌, ◌*◌, ◌≤◌, ◌<◌}
 use native.Mathlib.Numerals.{add-one}
 use native.Mathlib.Omega.{arith}
-use borrow.Author.Rules.{rules}
 use Rattle.model.specs.declared.Surface.{Surface}
 use Rattle.model.specs.declared.Bitmap.{Bitmap}
 use Rattle.model.specs.Ranges.{any_below}
 use Rattle.model.specs.Bitmaps.{word_of, touches}
 use Rattle.model.specs.Copies.{block_touches}
 use Rattle.model.proofs.SetupLaws.{any_below_more}
-use Rattle.fault_copies.proofs.BlockLaws.{BlockWithin, block_bad_within, word_le, bits_small, row_small}
+use Rattle.fault_copies.proofs.BlockLaws.{BlockWithin, block_bad_within, bits_small, row_small}
 use Rattle.fault_copies.proofs.rows_touch.Goals as goal
 use Rattle.fault_copies.proofs.rows_touch.Goals.{Start}
 

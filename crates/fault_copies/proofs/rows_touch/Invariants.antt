@@ -1,18 +1,12 @@
 -- `fault_copies::rows_touch` meets its contract. The invariant: the flag is the test joined over the rows
 -- passed.
-use mathlib.Core.Path.{◌≡◌, refl, sym, ap, ◌∙◌}
+use mathlib.Core.Path.{◌≡◌}
 use mathlib.Core.Bool.{Bool}
-use Prim.Native.Nat.{ℕ, suc, ◌+◌, ◌-◌, ◌*◌, ◌≤◌, ◌<◌}
-use native.Mathlib.Numerals.{add-one}
-use native.Mathlib.Omega.{arith}
-use borrow.Author.Rules.{rules}
+use Prim.Native.Nat.{ℕ, ◌+◌, ◌-◌, ◌*◌, ◌≤◌}
 use Rattle.model.specs.declared.Surface.{Surface}
 use Rattle.model.specs.declared.Bitmap.{Bitmap}
 use Rattle.model.specs.Ranges.{any_below}
-use Rattle.model.specs.Bitmaps.{word_of, touches}
-use Rattle.model.specs.Copies.{block_touches}
-use Rattle.model.proofs.SetupLaws.{any_below_more}
-use Rattle.fault_copies.proofs.BlockLaws.{BlockWithin, block_bad_within, word_le, bits_small, row_small}
+use Rattle.model.specs.Bitmaps.{touches}
 use Rattle.fault_copies.proofs.rows_touch.Given as goal
 
 -- whether bytes of row y + k touch

@@ -1,7 +1,6 @@
 -- `fault_copies::sharing` meets its contract, by the source's bitmap.
 use mathlib.Core.Path.{sym, ap, ◌∙◌}
 use mathlib.Core.Bool.{Bool}
-use borrow.Author.Rules.{rules}
 use Rattle.model.specs.declared.Bitmap.{Bitmap}
 use Rattle.model.specs.Copies.{rectangle_of, sharing}
 use Rattle.fault_copies.proofs.SharingLaws.{sharing_pane}

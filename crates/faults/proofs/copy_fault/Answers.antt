@@ -1,10 +1,6 @@
 -- The rule first; then the rectangle on the source's surface, which that rule makes readable; last the bytes in common.
-use mathlib.Core.Path.{sym, ap, ◌∙◌}
-use mathlib.Core.Bool.{Bool, cond}
-use Rattle.model.specs.Numbers.{fault_copy}
-use Rattle.bitmaps.proofs.AreaLaws.{placed_sizes}
-use Rattle.faults.proofs.CopyLaws.{source_readable, copy_fault_block, copy_fault_sharing}
-use borrow.Author.Rules.{rules}
+use mathlib.Core.Path.{sym, ◌∙◌}
+use Rattle.faults.proofs.CopyLaws.{source_readable}
 use Rattle.faults.proofs.copy_fault.Goals as goal
 
 pub sharing-shared-requires : goal.sharing-shared-requires

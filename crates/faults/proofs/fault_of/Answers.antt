@@ -2,11 +2,9 @@
 -- clause for that command says. First what the arms ask, and then what they answer.
 use mathlib.Core.Path.{subst}
 use native.Mathlib.Omega.{arith}
-use borrow.Author.Rules.{rules}
 use Rattle.model.specs.Faults.{fault_of}
 use Rattle.model.specs.Commands.{Addressed, pairs_at, triples_at}
-use Rattle.bitmaps.proofs.AreaLaws.{placed_sizes}
-use Rattle.faults.proofs.CheckingLaws.{checkable_active, string_addressed}
+use Rattle.faults.proofs.CheckingLaws.{string_addressed}
 use Rattle.faults.proofs.fault_of.Goals as goal
 
 pub array_fault-requires : goal.array_fault-requires
@@ -116,11 +114,11 @@ returns-in-Char c = rw (c.in-Char.is, c.char_fault.ensures)
 pub returns-in-BitBltM : goal.returns-in-BitBltM
 unfolding fault_of
 returns-in-BitBltM c = rw (
-      c.in-BitBltM.is,
-      c.draw_fault-in-BitBltM.ensures,
-      c.copy_fault.ensures,
-      c.source_of-source.ensures.0,
-    )
+  c.in-BitBltM.is,
+  c.draw_fault-in-BitBltM.ensures,
+  c.copy_fault.ensures,
+  c.source_of-source.ensures.0,
+)
 
 pub returns-in-ScanLines : goal.returns-in-ScanLines
 unfolding fault_of

@@ -1,5 +1,5 @@
 -- `faults::may_fault` meets its contract: the commands for which it answers no have 0 for their fault.
-use mathlib.Core.Path.{◌≡◌, refl, sym}
+use mathlib.Core.Path.{◌≡◌, refl}
 use mathlib.Core.List.{List, [], ◌∷◌}
 use Prim.Native.Nat.{ℕ}
 use denote.Enum.Declared.{tag_of}
@@ -11,7 +11,6 @@ use Rattle.model.specs.declared.Context.{Context}
 use Rattle.model.specs.declared.Command.{Command}
 use Rattle.model.specs.declared.Command.TheVariants as command
 use Rattle.model.specs.contracts.Command.{the_type}
-use Rattle.model.proofs.Decisions.{holds}
 use Rattle.faults.proofs.may_fault.Goals as goal
 
 abbrev faultless : List ℕ

@@ -1,12 +1,8 @@
 -- The invariant: the commas passed and the fields that are left are as many as all fields, and no more commas than bytes are passed.
 use mathlib.Core.Path.{◌≡◌}
-use mathlib.Core.Logic.{⊎_elim}
 use Prim.Native.Nat.{◌+◌, ◌-◌, ◌≤◌}
-use native.Mathlib.Omega.{arith}
 use lib.ListN.{length, drop}
 use Rattle.script_fields.specs.Fields.{fields_of}
-use Rattle.script_fields.proofs.PieceLaws.{count_here, count_next, count_end_lem}
-use borrow.Author.Rules.{rules}
 use Rattle.script_fields.proofs.commas.Given as goal
 
 abbrev pub invariant-loop-i : goal.invariant-loop-i

@@ -1,10 +1,7 @@
 -- The invariant: field `left` of what stands from `from` on is field k of the line. What is left of k falls.
-use mathlib.Core.Path.{◌≡◌, refl, sym, ◌∙◌}
-use Prim.Native.Nat.{◌≤◌}
+use mathlib.Core.Path.{◌≡◌, sym, ◌∙◌}
 use native.Mathlib.Omega.{arith}
-use lib.ListN.{length, drop}
 use borrow.Author.Rules.{rules}
-use Rattle.script_fields.specs.Fields.{fields_of, field}
 use Rattle.script_fields.proofs.PieceLaws.{field_here, field_next, field_past}
 use Rattle.script_fields.proofs.field_at.Goals as goal
 

@@ -1,11 +1,8 @@
 -- The invariant: field `left` of what stands from `from` on is field k of the line. What is left of k falls.
-use mathlib.Core.Path.{◌≡◌, refl, sym, ◌∙◌}
+use mathlib.Core.Path.{◌≡◌}
 use Prim.Native.Nat.{◌≤◌}
-use native.Mathlib.Omega.{arith}
 use lib.ListN.{length, drop}
-use borrow.Author.Rules.{rules}
 use Rattle.script_fields.specs.Fields.{fields_of, field}
-use Rattle.script_fields.proofs.PieceLaws.{field_here, field_next, field_past}
 use Rattle.script_fields.proofs.field_at.Given as goal
 
 abbrev pub invariant-loop-left : goal.invariant-loop-left

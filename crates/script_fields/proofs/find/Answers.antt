@@ -1,11 +1,6 @@
 -- The invariant: the byte is as far from `from` as it is from i, and i lies between `from` and the end of the text.
-use mathlib.Core.Path.{◌≡◌}
-use Prim.Native.Nat.{◌+◌, ◌-◌, ◌≤◌}
 use native.Mathlib.Omega.{arith}
-use lib.ListN.{length, drop}
-use Rattle.script_fields.specs.Fields.{bytes_before}
 use Rattle.script_fields.proofs.PieceLaws.{bytes_before_here, bytes_before_next, bytes_before_end}
-use borrow.Author.Rules.{rules}
 use Rattle.script_fields.proofs.find.Goals as goal
 
 pub returns-then-text-i : goal.returns-then-text-i

@@ -1,10 +1,6 @@
 -- A product of two 32-bit numbers, and one more such number, fit 64 bits; the tests stand in the order of the definition.
-use Prim.Native.Nat.{ℕ, ◌*◌, ◌≤◌}
-use native.Mathlib.Omega.{arith}
-use native.Mathlib.Nat.{mul-le-mul}
 use borrow.Author.Tests.{lt-ltb, le-ltb, le-leb, lt-leb}
 use Rattle.script_fields.specs.Numbers.{longer}
-use borrow.Author.Rules.{rules}
 use Rattle.script_fields.proofs.longer.Goals as goal
 
 pub returns-then-base-d : goal.returns-then-base-d

@@ -1,13 +1,13 @@
 -- The invariant: i numbers are read, and with those from number i on they are the line's.
 use mathlib.Core.Path.{◌≡◌, refl, sym, ◌∙◌}
 use mathlib.Core.List.{List}
-use Prim.Native.Nat.{ℕ, ◌-◌, ◌≤◌}
+use Prim.Native.Nat.{ℕ, ◌≤◌}
 use native.Mathlib.Omega.{arith}
-use lib.ListN.{length, take}
+use lib.ListN.{length}
 use borrow.Author.Rules.{rules}
-use Rattle.script_fields.specs.Fields.{fields_of, line_numbers}
-use Rattle.script_fields.proofs.ReadingLaws.{prefixed, prefixed_none, prefixed_next, prefixed_bad, prefixed_end}
-use Rattle.script_fields.proofs.ReadingLaws.{numbers_from, line_numbers_all, line_numbers_other, numbers_from_next, numbers_from_end}
+use Rattle.script_fields.specs.Fields.{fields_of}
+use Rattle.script_fields.proofs.ReadingLaws.{prefixed_none, prefixed_next, prefixed_bad, prefixed_end}
+use Rattle.script_fields.proofs.ReadingLaws.{line_numbers_all, line_numbers_other, numbers_from_next, numbers_from_end}
 use Rattle.script_fields.proofs.numbers.Goals as goal
 use Rattle.script_fields.proofs.numbers.Goals.{Start}
 

@@ -1,13 +1,10 @@
 -- The invariant: i numbers are read, and with those from number i on they are the line's.
-use mathlib.Core.Path.{◌≡◌, refl, sym, ◌∙◌}
-use mathlib.Core.List.{List}
-use Prim.Native.Nat.{ℕ, ◌-◌, ◌≤◌}
-use native.Mathlib.Omega.{arith}
+use mathlib.Core.Path.{◌≡◌}
+use Prim.Native.Nat.{◌-◌, ◌≤◌}
 use lib.ListN.{length, take}
-use borrow.Author.Rules.{rules}
 use Rattle.script_fields.specs.Fields.{fields_of, line_numbers}
-use Rattle.script_fields.proofs.ReadingLaws.{prefixed, prefixed_none, prefixed_next, prefixed_bad, prefixed_end}
-use Rattle.script_fields.proofs.ReadingLaws.{numbers_from, line_numbers_all, line_numbers_other, numbers_from_next, numbers_from_end}
+use Rattle.script_fields.proofs.ReadingLaws.{prefixed}
+use Rattle.script_fields.proofs.ReadingLaws.{numbers_from}
 use Rattle.script_fields.proofs.numbers.Given as goal
 
 abbrev pub invariant-loop-i : goal.invariant-loop-i

@@ -1,5 +1,4 @@
 -- The bytes of the field spell the number.
-use borrow.Author.Rules.{rules}
 use Rattle.script_fields.proofs.spelled.Goals as goal
 
 pub returns : goal.returns

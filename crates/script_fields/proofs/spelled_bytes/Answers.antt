@@ -1,12 +1,11 @@
 -- The invariant: i of n bytes are written, and those that the rest of the field spells, after them, are those that all of it spells.
 use mathlib.Core.Path.{◌≡◌, refl, sym, ◌∙◌}
 use mathlib.Core.List.{List}
-use Prim.Native.Nat.{ℕ, ◌*◌, ◌-◌, ◌/◌, ◌≤◌}
+use Prim.Native.Nat.{ℕ, ◌*◌, ◌/◌}
 use native.Mathlib.Omega.{arith}
-use lib.ListN.{length, take, drop}
+use lib.ListN.{length}
 use borrow.Author.Rules.{rules}
-use Rattle.script_fields.specs.Fields.{spelled_bytes, most_bytes}
-use Rattle.script_fields.proofs.ReadingLaws.{prefixed, prefixed_none, prefixed_next, prefixed_bad, prefixed_end}
+use Rattle.script_fields.proofs.ReadingLaws.{prefixed_none, prefixed_next, prefixed_bad, prefixed_end}
 use Rattle.script_fields.proofs.ReadingLaws.{spelled_bytes_odd, spelled_bytes_next, spelled_bytes_end, spelled_bytes_byte}
 use Rattle.script_fields.proofs.spelled_bytes.Goals as goal
 use Rattle.script_fields.proofs.spelled_bytes.Goals.{At-loop-i}

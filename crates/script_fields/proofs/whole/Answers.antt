@@ -1,11 +1,9 @@
 -- The number is the definition's. The invariant: the digits that are left, taken to the number so far, give what all of them give.
-use mathlib.Core.Path.{◌≡◌, refl, sym}
-use Prim.Native.Nat.{◌+◌, ◌-◌, ◌≤◌, ◌<◌}
+use mathlib.Core.Path.{sym}
+use Prim.Native.Nat.{◌+◌}
 use native.Mathlib.Omega.{arith}
-use lib.ListN.{length, drop}
+use lib.ListN.{drop}
 use borrow.Author.Rules.{rules}
-use Rattle.script_fields.specs.declared.Number.TheVariants as number
-use Rattle.script_fields.specs.Numbers.{and_digits}
 use Rattle.script_fields.proofs.NumberLaws.{and_digits_bad, and_digits_next, and_digits_end, spelled_number_some, spelled_number_none}
 use Rattle.script_fields.proofs.whole.Goals as goal
 

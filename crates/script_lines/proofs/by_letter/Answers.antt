@@ -1,6 +1,5 @@
 -- The numbers are read as the letter's form asks, and the line is what it says with them.
 use mathlib.Core.Path.{sym, ◌∙◌}
-use borrow.Author.Rules.{rules}
 use Rattle.script_lines.proofs.LineLaws.{line_by_bad, line_by_good}
 use Rattle.script_lines.proofs.by_letter.Goals as goal
 

@@ -1,7 +1,5 @@
 -- The first field is one byte, a letter of the language, or the line is malformed.
 use mathlib.Core.Path.{sym, ◌∙◌}
-use borrow.Author.Rules.{rules}
-use borrow.Author.Tests.{not-true, not-false}
 use Rattle.script_lines.proofs.LineLaws.{line_of_other, line_of_unknown, line_of_letter}
 use Rattle.script_lines.proofs.parse.Goals as goal
 

@@ -1,11 +1,7 @@
 -- The invariant: the bytes passed are written. What is left of the bytes falls.
-use Prim.Native.Nat.{◌-◌, ◌≤◌, ◌<◌}
-use native.Mathlib.Omega.{arith}
+use Prim.Native.Nat.{◌-◌, ◌≤◌}
 use lib.ListN.{length, take}
-use lib.Seq.{take_all}
-use borrow.Author.Rules.{rules}
 use Rattle.script_numerals.specs.Numerals.{Wrote}
-use Rattle.script_numerals.proofs.WroteLaws.{Wrote-none, Wrote-next}
 use Rattle.script_numerals.proofs.append.Given as goal
 
 abbrev pub invariant-loop-i : goal.invariant-loop-i

@@ -1,8 +1,7 @@
 -- A coordinate that is not negative is its pattern; of another the numeral stands after a minus.
 use native.Mathlib.Omega.{arith}
-use borrow.Author.Rules.{rules}
 use Rattle.script_numerals.proofs.WroteLaws.{Wrote-value, Wrote-then}
-use Rattle.script_numerals.proofs.NumeralLaws.{coordinate_plus, coordinate_minus}
+use Rattle.script_numerals.proofs.NumeralLaws.{coordinate_minus}
 use Rattle.script_numerals.proofs.coordinate.Goals as goal
 
 -- negative

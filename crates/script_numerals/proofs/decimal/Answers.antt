@@ -1,7 +1,6 @@
 -- io::decimal answers the digits of the numeral.
 use Prim.Native.Nat.{◌^◌, ◌<◌}
 use native.Mathlib.Omega.{arith}
-use borrow.Author.Rules.{rules}
 use Rattle.script_numerals.proofs.NumeralLaws.{numeral_fewest}
 use Rattle.script_numerals.proofs.decimal.Goals as goal
 

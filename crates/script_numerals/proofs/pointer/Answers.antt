@@ -1,7 +1,6 @@
 -- A comma, and the digits of the numeral that io::hex answers.
 use Prim.Native.Nat.{◌^◌, ◌<◌}
 use native.Mathlib.Omega.{arith}
-use borrow.Author.Rules.{rules}
 use Rattle.script_numerals.proofs.WroteLaws.{Wrote-value}
 use Rattle.script_numerals.proofs.NumeralLaws.{numeral_fewest}
 use Rattle.script_numerals.proofs.pointer.Goals as goal

@@ -1,5 +1,4 @@
 -- A comma and the numeral.
-use borrow.Author.Rules.{rules}
 use Rattle.script_numerals.proofs.WroteLaws.{Wrote-value}
 use Rattle.script_numerals.proofs.value.Goals as goal
 

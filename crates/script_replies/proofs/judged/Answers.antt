@@ -1,5 +1,4 @@
 -- Each verdict's two values in their order.
-use borrow.Author.Rules.{rules}
 use Rattle.script_numerals.proofs.WroteLaws.{Wrote-values}
 use Rattle.script_replies.proofs.judged.Goals as goal
 

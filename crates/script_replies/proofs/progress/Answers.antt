@@ -1,5 +1,4 @@
 -- Three values in their order.
-use borrow.Author.Rules.{rules}
 use Rattle.script_numerals.proofs.WroteLaws.{Wrote-values}
 use Rattle.script_replies.proofs.progress.Goals as goal
 

@@ -1,5 +1,4 @@
 -- Letter, values and line feed.
-use borrow.Author.Rules.{rules}
 use Rattle.script_replies.specs.Replies.{reply_text}
 use Rattle.script_numerals.proofs.WroteLaws.{Wrote-then}
 use Rattle.script_replies.proofs.reply.Goals as goal

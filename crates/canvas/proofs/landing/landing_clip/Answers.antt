@@ -1,6 +1,5 @@
 -- `canvas::landing::landing_clip` meets its contract, by the three cases of a bitmap.
 use native.Mathlib.Omega.{arith}
-use borrow.Author.Rules.{rules}
 use Rattle.canvas.proofs.LandingLaws.{scissor_limited}
 use Rattle.canvas.proofs.landing.landing_clip.Goals as goal
 

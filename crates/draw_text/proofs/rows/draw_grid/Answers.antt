@@ -10,7 +10,7 @@ use Rattle.draw_text.specs.Cells.{rows_from, grid_dots}
 use Rattle.draw_text.specs.Rows.{Planned, RowsPlanned, SomeCells}
 use Rattle.draw_text.proofs.RowLaws.{grid_beside, grid_below, rows_whole, rows_planned, rows_seen, seen_most, alone, roomy_here}
 use Rattle.draw_text.proofs.rows.draw_grid.Goals as goal
-use Rattle.draw_text.proofs.rows.draw_grid.Goals.{After-seen_in, After-stencil_for-stencil}
+use Rattle.draw_text.proofs.rows.draw_grid.Goals.{After-stencil_for-stencil}
 
 abbrev plan : After-stencil_for-stencil → RowPlan
 plan c = record {
@@ -53,24 +53,15 @@ visible c =
     let f = c.edges_between-f.result in
     rows_from a.t.pen a.style a.g f.first (f.second - f.first)
 
--- .. painted, are the grid; and counted, are what is seen
-module _ (c : After-seen_in) where
-  whole : let a = c.before.args in
-      painted_all a.t (visible c.before) (canvas a.screen.now a.store.now a.hits)
+-- .. painted, are the grid
+module _ (c : After-stencil_for-stencil) where
+  whole : let a = c.args in
+      painted_all a.t (visible c) (canvas a.screen.now a.store.now a.hits)
       ≡ painted_all a.t (grid_dots a.t.pen a.style a.g) (canvas a.screen.now a.store.now a.hits)
   whole =
-      let p = c.before in
-      let b = p in
-      let a = b.args in
-      rows_whole a.t a.style b.requires.0.east b.requires.0.south a.g p.first_span-span.ensures p.edges_between-f.result
-      p.edges_between-f.ensures (canvas a.screen.now a.store.now a.hits)
-
-  counted : let a = c.before.args in hits a.t.area.surface a.t.clip (visible c.before) ≡ c.seen_in.result
-  counted =
-      let p = c.before in
-      let b = p in
-      let a = b.args in
-      rows_seen a.t a.style (plan p) a.g (columns p) b.requires.1.width b.requires.0.east b.requires.0.south (planned p) ∙ sym c.seen_in.ensures
+      let a = c.args in
+      rows_whole a.t a.style c.requires.0.east c.requires.0.south a.g c.first_span-span.ensures c.edges_between-f.result
+      c.edges_between-f.ensures (canvas a.screen.now a.store.now a.hits)
 
 -- no column of the grid lies in the clip
 pub returns-then-edges : goal.returns-then-edges
@@ -93,7 +84,9 @@ overflow_add-seen c =
 pub returns-then-t : goal.returns-then-t
 returns-then-t c =
     let a = c.args in
-    picked_painted a.t (visible (goal.at.returns-then-t c).After-stencil_for-stencil) a.screen.now a.store.now a.hits c.seen_in.result (counted (goal.at.returns-then-t c).After-seen_in) c.if-t.true ∙ whole (goal.at.returns-then-t c).After-seen_in
+    let p = (goal.at.returns-then-t c).After-stencil_for-stencil in
+    let counted = rows_seen a.t a.style (plan p) a.g (columns p) c.requires.1.width c.requires.0.east c.requires.0.south (planned p) ∙ sym c.seen_in.ensures in
+    picked_painted a.t (visible p) a.screen.now a.store.now a.hits c.seen_in.result counted c.if-t.true ∙ whole p
 
 pub roomy-requires : goal.roomy-requires
 roomy-requires c =
@@ -113,14 +106,18 @@ draw_rows-requires-else-area c =
 pub returns-then-area : goal.returns-then-area
 returns-then-area c =
     let a = c.args in
-    screen_painted a.t (visible (goal.at.returns-then-area c).After-stencil_for-stencil) a.screen.now a.store.now a.hits c.seen_in.result (counted (goal.at.returns-then-area c).After-seen_in) c.if-t.false c.if-area.true
+    let p = (goal.at.returns-then-area c).After-stencil_for-stencil in
+    let counted = rows_seen a.t a.style (plan p) a.g (columns p) c.requires.1.width c.requires.0.east c.requires.0.south (planned p) ∙ sym c.seen_in.ensures in
+    screen_painted a.t (visible p) a.screen.now a.store.now a.hits c.seen_in.result counted c.if-t.false c.if-area.true
     (c.draw_rows.ensures.drawn a.g (sym c.first_span-span.ensures.count) c.met_rows-met.ensures)
-    ∙ whole (goal.at.returns-then-area c).After-seen_in
+    ∙ whole p
 
 -- in the store
 pub returns-else-area : goal.returns-else-area
 returns-else-area c =
     let a = c.args in
-    store_painted a.t (visible (goal.at.returns-else-area c).After-stencil_for-stencil) a.screen.now a.store.now a.hits c.seen_in.result (counted (goal.at.returns-else-area c).After-seen_in) c.if-t.false c.if-area.false
+    let p = (goal.at.returns-else-area c).After-stencil_for-stencil in
+    let counted = rows_seen a.t a.style (plan p) a.g (columns p) c.requires.1.width c.requires.0.east c.requires.0.south (planned p) ∙ sym c.seen_in.ensures in
+    store_painted a.t (visible p) a.screen.now a.store.now a.hits c.seen_in.result counted c.if-t.false c.if-area.false
     (c.draw_rows-else-area.ensures.drawn a.g (sym c.first_span-span.ensures.count) c.met_rows-met.ensures)
-    ∙ whole (goal.at.returns-else-area c).After-seen_in
+    ∙ whole p

@@ -1,6 +1,5 @@
 -- `fault_text::check::char_bad` meets its contract: the string is looked at first, since descriptors are found through it.
 use mathlib.Core.Path.{sym, ◌∙◌}
-use borrow.Author.Rules.{rules}
 use Rattle.fault_text.proofs.check.char_bad.Goals as goal
 
 pub returns-then-string_bad : goal.returns-then-string_bad

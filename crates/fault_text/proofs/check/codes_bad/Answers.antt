@@ -3,7 +3,6 @@ use mathlib.Core.Path.{◌≡◌, sym, ◌∙◌}
 use mathlib.Core.Bool.{false}
 use Prim.Native.Nat.{◌+◌}
 use native.Mathlib.Omega.{arith}
-use borrow.Author.Rules.{rules}
 use Rattle.model.specs.Faults.{bytes_bad}
 use Rattle.bitmaps.proofs.BytesLaws.{bytes_bad_inside}
 use Rattle.fault_text.proofs.check.codes_bad.Goals as goal

@@ -1,10 +1,6 @@
 -- `fault_text::check::descriptor_bad` meets its contract: where the first word passes the store's end, so does the descriptor.
-use mathlib.Core.Path.{sym, ap, ◌∙◌}
-use Prim.Native.Nat.{ℕ, ◌+◌, ◌*◌}
+use mathlib.Core.Path.{sym}
 use native.Mathlib.Omega.{arith}
-use borrow.Author.Rules.{rules}
-use Rattle.model.specs.Glyphs.{height_of}
-use Rattle.model.specs.Faults.{array_bad}
 use Rattle.bitmaps.proofs.BytesLaws.{array_bad_beyond}
 use Rattle.fault_text.proofs.check.descriptor_bad.Goals as goal
 

@@ -1,15 +1,7 @@
 -- `fault_text::check::descriptors_bad` meets its contract. The loop's invariant: `bad` is the test of the first k characters' descriptors.
-use mathlib.Core.Path.{◌≡◌, refl, ap, ◌∙◌}
+use mathlib.Core.Path.{◌≡◌}
 use Prim.Native.Nat.{◌-◌, ◌≤◌}
-use native.Mathlib.Omega.{arith}
-use borrow.Author.Rules.{rules}
-use Rattle.model.specs.Ranges.{any_below}
-use Rattle.model.specs.Glyphs.{descriptor}
 use Rattle.model.specs.Faults.{descriptors_bad}
-use Rattle.model.proofs.SetupLaws.{any_below_more}
-use Rattle.fault_text.specs.Reading.{descriptor_bad}
-use Rattle.fault_text.proofs.FontLaws.{base_of_small}
-use Rattle.fault_text.proofs.CheckLaws.{string_bad_spelt}
 use Rattle.fault_text.proofs.check.descriptors_bad.Given as goal
 
 abbrev pub invariant-loop-k : goal.invariant-loop-k

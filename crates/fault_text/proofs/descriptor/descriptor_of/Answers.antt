@@ -1,10 +1,8 @@
 -- `fault_text::descriptor::descriptor_of` meets its contract, by the kind of font: no selector, the string's word, or the word that its
 -- code names.
 use mathlib.Core.Path.{◌≡◌, sym, ap, ◌∙◌}
-use Prim.Native.Nat.{ℕ, ◌+◌, ◌*◌, ◌<◌}
+use Prim.Native.Nat.{ℕ, ◌+◌, ◌*◌}
 use native.Mathlib.Omega.{arith}
-use borrow.Author.Rules.{rules}
-use lib.ListN.{length}
 use Rattle.model.specs.Words.{word_at}
 use Rattle.model.specs.Glyphs.{base_of}
 use Rattle.fault_text.proofs.FontLaws.{descriptor_absent, descriptor_word, descriptor_byte}

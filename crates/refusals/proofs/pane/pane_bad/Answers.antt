@@ -1,6 +1,5 @@
 -- Refusal 12's tests are the definition's, in its order.
 use Rattle.model.specs.Setup.{pane_bad}
-use borrow.Author.Rules.{rules}
 use Rattle.refusals.proofs.pane.pane_bad.Goals as goal
 
 pub returns : goal.returns

@@ -1,5 +1,4 @@
 -- The scissor kept, compared with what `scissor_of` answers.
-use borrow.Author.Rules.{rules}
 use Rattle.model.specs.Scissor.{scissor_stale}
 use Rattle.refusals.proofs.pane.scissor_stale.Goals as goal
 

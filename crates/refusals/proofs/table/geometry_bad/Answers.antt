@@ -1,6 +1,5 @@
 -- Refusal 6's tests are the definition's, in its order.
 use Rattle.model.specs.Setup.{geometry_bad}
-use borrow.Author.Rules.{rules}
 use Rattle.refusals.proofs.table.geometry_bad.Goals as goal
 
 pub returns : goal.returns

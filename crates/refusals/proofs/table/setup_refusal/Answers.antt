@@ -3,7 +3,6 @@ use mathlib.Core.Path.{sym, ◌∙◌}
 use Rattle.model.specs.Setup.{checks}
 use Rattle.refusals.specs.Sizes.{some_row, some_pair, table_checks}
 use Rattle.refusals.proofs.SizeLaws.{geometry_bad_sized}
-use borrow.Author.Rules.{rules}
 use Rattle.refusals.proofs.table.setup_refusal.Goals as goal
 
 pub returns-then-geometry_bad : goal.returns-then-geometry_bad

@@ -1,6 +1,5 @@
 -- Two rectangles share a pixel where their columns and their rows share a number.
 use Rattle.model.specs.Setup.{share_pixel}
-use borrow.Author.Rules.{rules}
 use Rattle.refusals.proofs.table.share_pixel.Goals as goal
 
 pub returns : goal.returns

@@ -1,7 +1,4 @@
 -- What a row shares with the first rows. The invariant: the two flags are the tests joined over the rows passed.
-use mathlib.Core.Path.{◌≡◌}
-use Prim.Native.Nat.{◌≤◌, ◌-◌}
-use native.Mathlib.Nat.{le_antisymm}
 use borrow.Author.Rules.{rules}
 use Rattle.model.specs.Ranges.{any_below}
 use Rattle.model.specs.Setup.{share_pixel, share_byte}

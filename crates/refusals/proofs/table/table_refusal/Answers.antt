@@ -1,7 +1,6 @@
 -- The refusals 7 to 11 are nested as in the definition, each with what `found` and `screen_bytes` answer.
 use Rattle.refusals.specs.Sizes.{table_checks}
 use Rattle.bitmaps.proofs.DepthLaws.{is_depth_known}
-use borrow.Author.Rules.{rules}
 use Rattle.refusals.proofs.table.table_refusal.Goals as goal
 
 pub screen_bytes-requires : goal.screen_bytes-requires

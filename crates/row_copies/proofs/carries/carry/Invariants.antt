@@ -1,10 +1,6 @@
 -- `carry` meets its contract: the bytes before i are carried.
-use mathlib.Core.Path.{◌≡◌, refl}
-use Prim.Native.Nat.{◌+◌, ◌-◌, ◌≤◌}
-use native.Mathlib.Omega.{arith}
+use Prim.Native.Nat.{◌-◌, ◌≤◌}
 use Rattle.row_copies.specs.Rows.{Carried}
-use Rattle.row_copies.proofs.CarryLaws.{carried_none, carried_byte, carried_then}
-use borrow.Author.Rules.{rules}
 use Rattle.row_copies.proofs.carries.carry.Given as goal
 
 abbrev pub invariant-loop-i : goal.invariant-loop-i

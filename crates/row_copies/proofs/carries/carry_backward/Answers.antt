@@ -1,10 +1,8 @@
 -- `carry_backward` meets its contract: whole sixteens, and then what is left, byte by byte.
 use mathlib.Core.Path.{◌≡◌}
-use Prim.Native.Nat.{◌+◌, ◌-◌, ◌≤◌}
+use Prim.Native.Nat.{◌+◌, ◌-◌}
 use native.Mathlib.Omega.{arith}
-use Rattle.row_copies.specs.Rows.{Carried}
-use Rattle.row_copies.proofs.CarryLaws.{carried_none, carried_byte, carried_backward, carried_all, backward_less}
-use borrow.Author.Rules.{rules}
+use Rattle.row_copies.proofs.CarryLaws.{carried_byte, carried_backward, carried_all, backward_less}
 use Rattle.row_copies.proofs.carries.carry_backward.Goals as goal
 
 pub loop-i-preserved : goal.loop-i-preserved

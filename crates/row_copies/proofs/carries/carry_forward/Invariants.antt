@@ -1,10 +1,6 @@
 -- `carry_forward` meets its contract: whole sixteens, and then what is left, byte by byte.
-use mathlib.Core.Path.{◌≡◌}
 use Prim.Native.Nat.{◌+◌, ◌-◌, ◌≤◌}
-use native.Mathlib.Omega.{arith}
 use Rattle.row_copies.specs.Rows.{Carried}
-use Rattle.row_copies.proofs.CarryLaws.{carried_none, carried_byte, carried_forward, carried_on}
-use borrow.Author.Rules.{rules}
 use Rattle.row_copies.proofs.carries.carry_forward.Given as goal
 
 abbrev pub invariant-loop-i : goal.invariant-loop-i

@@ -1,10 +1,8 @@
 -- `sixteens_backward` meets its contract: the bytes from i on are carried, sixteen more at a time.
 use mathlib.Core.Path.{◌≡◌}
-use Prim.Native.Nat.{◌+◌, ◌-◌, ◌≤◌}
+use Prim.Native.Nat.{◌+◌, ◌-◌}
 use native.Mathlib.Omega.{arith}
-use Rattle.row_copies.specs.Rows.{Carried}
-use Rattle.row_copies.proofs.CarryLaws.{carried_none, carried_laid, carried_backward}
-use borrow.Author.Rules.{rules}
+use Rattle.row_copies.proofs.CarryLaws.{carried_laid, carried_backward}
 use Rattle.row_copies.proofs.carries.sixteens_backward.Goals as goal
 
 pub loop-i-preserved : goal.loop-i-preserved

@@ -1,9 +1,6 @@
 -- `sixteens_forward` meets its contract: the bytes before i are carried, sixteen more at a time.
-use Prim.Native.Nat.{◌+◌, ◌-◌, ◌≤◌}
-use native.Mathlib.Omega.{arith}
+use Prim.Native.Nat.{◌-◌, ◌≤◌}
 use Rattle.row_copies.specs.Rows.{Carried}
-use Rattle.row_copies.proofs.CarryLaws.{carried_none, carried_laid, carried_forward}
-use borrow.Author.Rules.{rules}
 use Rattle.row_copies.proofs.carries.sixteens_forward.Given as goal
 
 abbrev pub invariant-loop-i : goal.invariant-loop-i

@@ -1,14 +1,8 @@
 -- `mixed8` meets its contract: the words before j are mixed.
-use mathlib.Core.Path.{◌≡◌, refl, ◌∙◌}
-use Prim.Native.Nat.{ℕ, ◌-◌, ◌≤◌}
-use native.Mathlib.Omega.{arith}
-use lib.ListN.{length, get_or, length-set}
-use Rattle.model.specs.Words.{bit}
-use Rattle.strips.proofs.FillLaws.{entry_next}
-use Rattle.row_copies.specs.Rows.{operator_bit}
+use mathlib.Core.Path.{◌≡◌}
+use Prim.Native.Nat.{◌-◌, ◌≤◌}
+use lib.ListN.{length}
 use Rattle.row_copies.specs.Chunks.{Mixed8}
-use Rattle.row_copies.proofs.ChunkLaws.{none_yet}
-use borrow.Author.Rules.{rules}
 use Rattle.row_copies.proofs.chunks.mixed8.Given as goal
 
 abbrev pub invariant-loop-j : goal.invariant-loop-j

@@ -1,11 +1,6 @@
 -- `put8` meets its contract: the words before j are put.
-use mathlib.Core.Path.{◌≡◌}
-use Prim.Native.Nat.{◌+◌, ◌-◌, ◌*◌, ◌≤◌}
 use native.Mathlib.Omega.{arith}
-use lib.ListN.{length-set}
-use Rattle.row_copies.specs.Chunks.{Put8}
-use Rattle.row_copies.proofs.ChunkLaws.{put8_next, put8_none}
-use borrow.Author.Rules.{rules}
+use Rattle.row_copies.proofs.ChunkLaws.{put8_next}
 use Rattle.row_copies.proofs.chunks.put8.Goals as goal
 
 pub loop-j-preserved : goal.loop-j-preserved

@@ -1,13 +1,8 @@
 -- `words8` meets its contract: the words before j are read.
-use mathlib.Core.Path.{◌≡◌, refl, ◌∙◌}
-use Prim.Native.Nat.{ℕ, ◌+◌, ◌-◌, ◌*◌, ◌≤◌}
-use native.Mathlib.Omega.{arith}
-use lib.ListN.{length, length-set}
-use Rattle.model.specs.Words.{word_at}
-use Rattle.strips.proofs.FillLaws.{entry_next}
+use mathlib.Core.Path.{◌≡◌}
+use Prim.Native.Nat.{◌-◌, ◌≤◌}
+use lib.ListN.{length}
 use Rattle.row_copies.specs.Chunks.{Words8}
-use Rattle.row_copies.proofs.ChunkLaws.{none_yet}
-use borrow.Author.Rules.{rules}
 use Rattle.row_copies.proofs.chunks.words8.Given as goal
 
 abbrev pub invariant-loop-j : goal.invariant-loop-j

@@ -1,6 +1,5 @@
 -- `copy8` meets its contract: eight words read, funnelled, mixed and put.
 use Rattle.row_copies.proofs.ChunkLaws.{chunk_copied}
-use borrow.Author.Rules.{rules}
 use Rattle.row_copies.proofs.copies.copy8.Goals as goal
 use Rattle.row_copies.proofs.copies.copy8.Goals.{After-words8-x}
 

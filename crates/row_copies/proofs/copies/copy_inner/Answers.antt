@@ -1,7 +1,6 @@
 -- `copy_inner` meets its contract: bytes carried, or words copied.
 use mathlib.Core.Path.{sym, ◌∙◌}
 use Rattle.row_copies.proofs.CarryLaws.{carried_copied}
-use borrow.Author.Rules.{rules}
 use Rattle.row_copies.proofs.copies.copy_inner.Goals as goal
 
 pub returns-then-in_phase : goal.returns-then-in_phase

@@ -4,7 +4,6 @@ use Prim.Native.Nat.{◌+◌, ◌*◌}
 use native.Mathlib.Omega.{arith}
 use Rattle.strips.proofs.StretchLaws.{stretched_then}
 use Rattle.row_copies.proofs.CopyLaws.{stretched_none, stretched_ends}
-use borrow.Author.Rules.{rules}
 use Rattle.row_copies.proofs.copies.copy_row.Goals as goal
 
 pub returns-then-c-eq0 : goal.returns-then-c-eq0

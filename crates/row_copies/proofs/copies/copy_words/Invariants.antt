@@ -1,12 +1,7 @@
 -- `copy_words` meets its contract: whole chunks, and then what is left, word by word.
-use mathlib.Core.Path.{◌≡◌, ◌∙◌}
-use Prim.Native.Nat.{◌+◌, ◌-◌, ◌*◌, ◌≤◌}
-use native.Mathlib.Omega.{arith}
+use Prim.Native.Nat.{◌-◌, ◌*◌, ◌≤◌}
 use Rattle.strips.specs.Stretches.{Stretched}
-use Rattle.strips.proofs.StretchLaws.{stretched_then}
 use Rattle.row_copies.specs.Rows.{copied}
-use Rattle.row_copies.proofs.CopyLaws.{whole_word, stretched_none, stretched_ends, fit_kept}
-use borrow.Author.Rules.{rules}
 use Rattle.row_copies.proofs.copies.copy_words.Given as goal
 
 abbrev pub invariant-loop-w : goal.invariant-loop-w

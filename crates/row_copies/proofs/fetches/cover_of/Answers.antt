@@ -3,7 +3,6 @@ use mathlib.Core.Path.{◌≡◌}
 use Prim.Native.Nat.{◌+◌, ◌-◌, ◌%◌}
 use native.Mathlib.Omega.{arith}
 use Rattle.strips.proofs.EdgeLaws.{both_cover}
-use borrow.Author.Rules.{rules}
 use Rattle.row_copies.proofs.fetches.cover_of.Goals as goal
 
 pub returns : goal.returns

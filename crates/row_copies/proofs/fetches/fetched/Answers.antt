@@ -1,7 +1,6 @@
 -- `fetched` meets its contract: two words, the second after the first.
 use native.Mathlib.Omega.{arith}
 use Rattle.row_copies.proofs.CopyLaws.{fetched_is}
-use borrow.Author.Rules.{rules}
 use Rattle.row_copies.proofs.fetches.fetched.Goals as goal
 
 pub returns : goal.returns

@@ -1,7 +1,6 @@
 -- `funnel` meets its contract: bit by bit.
 use native.Mathlib.Omega.{arith}
 use Rattle.row_copies.proofs.WordLaws.{funnel_is}
-use borrow.Author.Rules.{rules}
 use Rattle.row_copies.proofs.fetches.funnel.Goals as goal
 
 pub returns : goal.returns

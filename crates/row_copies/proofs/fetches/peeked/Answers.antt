@@ -1,7 +1,6 @@
 -- `peeked` meets its contract: a word of the buffer, or nothing is said of it.
 use native.Mathlib.Omega.{arith}
 use Rattle.row_copies.proofs.CopyLaws.{peeked_is}
-use borrow.Author.Rules.{rules}
 use Rattle.row_copies.proofs.fetches.peeked.Goals as goal
 
 pub returns : goal.returns

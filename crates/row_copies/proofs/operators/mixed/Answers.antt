@@ -4,7 +4,6 @@ use Rattle.model.specs.Words.{bit}
 use Rattle.strips.specs.Strips.{mixed}
 use Rattle.strips.specs.declared.inks.Ink.{Ink}
 use Rattle.row_copies.proofs.WordLaws.{mixed_is}
-use borrow.Author.Rules.{rules}
 use Rattle.row_copies.proofs.operators.mixed.Goals as goal
 
 pub returns : goal.returns

@@ -6,7 +6,6 @@ use Rattle.model.specs.Operations.{op_bit}
 use Rattle.raster.specs.Operations.{truth_of}
 use Rattle.raster.specs.declared.operations.Truth.{Truth}
 use Rattle.row_copies.proofs.WordLaws.{operator_is}
-use borrow.Author.Rules.{rules}
 use Rattle.row_copies.proofs.operators.operator_of.Goals as goal
 
 pub returns : goal.returns

@@ -2,7 +2,6 @@
 use Prim.Native.Nat.{◌+◌, ◌*◌}
 use native.Mathlib.Omega.{arith}
 use Rattle.row_copies.proofs.CopyLaws.{stretched_ends, backward_next}
-use borrow.Author.Rules.{rules}
 use Rattle.row_copies.proofs.slides.slide_backward.Goals as goal
 
 pub returns : goal.returns

@@ -1,10 +1,7 @@
 -- `slide_chunks` meets its contract: n words are copied, eight more at a time.
 use Prim.Native.Nat.{◌-◌, ◌*◌, ◌≤◌}
-use native.Mathlib.Omega.{arith}
 use Rattle.strips.specs.Stretches.{Stretched}
 use Rattle.row_copies.specs.Rows.{copied, begin_of, end_of}
-use Rattle.row_copies.proofs.CopyLaws.{slid_none, slid_next, next_eight, fit_slid}
-use borrow.Author.Rules.{rules}
 use Rattle.row_copies.proofs.slides.slide_chunks.Given as goal
 
 abbrev pub invariant-loop-n : goal.invariant-loop-n

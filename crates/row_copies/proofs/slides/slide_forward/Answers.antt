@@ -2,7 +2,6 @@
 use Prim.Native.Nat.{◌+◌, ◌*◌}
 use native.Mathlib.Omega.{arith}
 use Rattle.row_copies.proofs.CopyLaws.{stretched_ends, forward_next}
-use borrow.Author.Rules.{rules}
 use Rattle.row_copies.proofs.slides.slide_forward.Goals as goal
 
 pub returns : goal.returns

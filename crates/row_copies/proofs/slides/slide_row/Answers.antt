@@ -3,7 +3,6 @@ use mathlib.Core.Path.{refl}
 use Prim.Native.Nat.{◌+◌}
 use native.Mathlib.Omega.{arith}
 use Rattle.row_copies.proofs.CopyLaws.{stretched_none, stretched_ends, forward_slidable, backward_slidable}
-use borrow.Author.Rules.{rules}
 use Rattle.row_copies.proofs.slides.slide_row.Goals as goal
 
 pub returns-then-c-eq0 : goal.returns-then-c-eq0

@@ -1,6 +1,5 @@
 -- `slide_word` meets its contract: the bits fetched for the word are put under its cover.
 use Rattle.row_copies.proofs.CopyLaws.{supplied, word_copied}
-use borrow.Author.Rules.{rules}
 use Rattle.row_copies.proofs.slides.slide_word.Goals as goal
 
 pub returns : goal.returns

@@ -1,11 +1,8 @@
 -- `words_forward` meets its contract: whole chunks, and then what is left, word by word.
-use mathlib.Core.Path.{◌≡◌, ◌∙◌}
-use Prim.Native.Nat.{◌+◌, ◌-◌, ◌*◌, ◌≤◌}
+use mathlib.Core.Path.{◌≡◌}
+use Prim.Native.Nat.{◌+◌, ◌*◌}
 use native.Mathlib.Omega.{arith}
-use Rattle.strips.specs.Stretches.{Stretched}
-use Rattle.row_copies.specs.Rows.{copied}
-use Rattle.row_copies.proofs.CopyLaws.{whole_word, stretched_none, stretched_ends, fit_slid, forward_next}
-use borrow.Author.Rules.{rules}
+use Rattle.row_copies.proofs.CopyLaws.{stretched_ends, forward_next}
 use Rattle.row_copies.proofs.slides.words_forward.Goals as goal
 
 pub loop-w-preserved : goal.loop-w-preserved

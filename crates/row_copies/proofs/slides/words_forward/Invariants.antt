@@ -1,11 +1,7 @@
 -- `words_forward` meets its contract: whole chunks, and then what is left, word by word.
-use mathlib.Core.Path.{◌≡◌, ◌∙◌}
-use Prim.Native.Nat.{◌+◌, ◌-◌, ◌*◌, ◌≤◌}
-use native.Mathlib.Omega.{arith}
+use Prim.Native.Nat.{◌-◌, ◌*◌, ◌≤◌}
 use Rattle.strips.specs.Stretches.{Stretched}
 use Rattle.row_copies.specs.Rows.{copied}
-use Rattle.row_copies.proofs.CopyLaws.{whole_word, stretched_none, stretched_ends, fit_slid, forward_next}
-use borrow.Author.Rules.{rules}
 use Rattle.row_copies.proofs.slides.words_forward.Given as goal
 
 abbrev pub invariant-loop-w : goal.invariant-loop-w
