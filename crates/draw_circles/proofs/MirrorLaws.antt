@@ -8,7 +8,6 @@ use native.Mathlib.Omega.{arith}
 use borrow.Author.Tests.{eq-eqb, ne_eqb, lt-ltb}
 use lib.Dec.{eqb, ltb}
 use lib.IntN.{◌+ℤ◌}
-use lib.ListN.{length}
 use Rattle.model.specs.Coordinates.{Place, at, place, coord, between}
 use Rattle.model.specs.Dots.{Dot, dot, visible}
 use Rattle.model.specs.Lines.{visited, once}

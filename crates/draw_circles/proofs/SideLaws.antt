@@ -5,7 +5,7 @@ use Prim.Native.Nat.{ℕ, ◌+◌, ◌-◌, ◌%◌, ◌≤◌, ◌<◌}
 use native.Mathlib.Omega.{arith}
 use borrow.Author.Tests.{leb-true, leb-false, le-leb, lt-leb, le-ltb}
 use lib.Dec.{leb}
-use lib.IntN.{ℤ, pos, neg_ℤ, ◌+ℤ◌, ◌-ℤ◌, -ℤ-+ℤ_cancel}
+use lib.IntN.{ℤ, pos, neg_ℤ, ◌+ℤ◌, -ℤ-+ℤ_cancel}
 use Rattle.model.specs.Coordinates.{coord, between, index}
 use Rattle.model.proofs.Decisions.{split, both_true, both_of, and_false, and_left}
 use Rattle.coordinates.specs.Offsets.{directed, unbiased}

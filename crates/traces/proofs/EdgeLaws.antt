@@ -1,5 +1,5 @@
 -- Which pixels of a trace lie in the clip: along the major axis their numbers decide, along the minor axis their offsets, which never fall.
-use Rattle.std.proofs.Common.{◌≡◌, ℕ, ◌+◌, ◌<◌, ◌≤◌, max, Bool, true, false, ◌&&◌, ltb, leb, sym, ap, ◌∙◌, ap₂, arith, leb-true}
+use Rattle.std.proofs.Common.{◌≡◌, ℕ, ◌+◌, ◌<◌, ◌≤◌, max, Bool, true, false, ◌&&◌, ltb, leb, sym, ◌∙◌, ap₂, arith, leb-true}
 use native.Mathlib.Decide.{dec_lt}
 use Rattle.model.specs.declared.Clip.{Clip}
 use Rattle.model.proofs.Decisions.{both_true, both_of, and_false, and_left}

@@ -4,9 +4,8 @@ use Rattle.model.specs.declared.Verdict.{Verdict}
 use Rattle.model.specs.declared.Reply.TheVariants as reply
 use Rattle.model.specs.Replies.{accepted_with, verdict_values}
 use Rattle.model.specs.Calls.{judge, part, own_refusal, on_pane}
-use Rattle.call_common.proofs.CallLaws.{exec_refused, exec_refused_own, store_room, exec_kept}
+use Rattle.call_common.proofs.CallLaws.{exec_refused, exec_refused_own, exec_kept}
 use Rattle.call_judge.proofs.FreshLaws.{granted_checkable}
-use borrow.Author.Rules.{rules}
 use Rattle.call_judge.proofs.judge.Goals as goal
 
 pub returns-then-admission-ne0 : goal.returns-then-admission-ne0

@@ -2,10 +2,8 @@
 use mathlib.Core.Path.{refl}
 use Rattle.model.specs.Bitmaps.{surface_of}
 use Rattle.model.specs.Calls.{on_pane}
-use Rattle.bitmaps.proofs.AreaLaws.{placed_sizes}
 use Rattle.call_common.proofs.CallLaws.{exec_refused, exec_refused_own, exec_value}
 use Rattle.call_pixel.proofs.PixelLaws.{pixel_drawable}
-use borrow.Author.Rules.{rules}
 use Rattle.call_pixel.proofs.pixel.Goals as goal
 
 pub returns-then-admission-ne0 : goal.returns-then-admission-ne0

@@ -1,6 +1,5 @@
 -- Pixel's own refusal, as `own_refusal` has it.
 use Rattle.model.specs.Calls.{own_refusal}
-use borrow.Author.Rules.{rules}
 use Rattle.call_pixel.proofs.pixel_refusal.Goals as goal
 
 pub returns : goal.returns

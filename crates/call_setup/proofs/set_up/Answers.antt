@@ -3,7 +3,6 @@ use mathlib.Core.Path.{sym}
 use borrow.Author.Tests.{eq-eqb}
 use Rattle.model.specs.Calls.{set_up, setup_refusal}
 use Rattle.call_common.proofs.CallLaws.{set_up_refused}
-use borrow.Author.Rules.{rules}
 use Rattle.call_setup.proofs.set_up.Goals as goal
 
 pub returns-then-first-ne0 : goal.returns-then-first-ne0

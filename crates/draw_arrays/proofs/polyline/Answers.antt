@@ -1,19 +1,13 @@
 -- `draw_arrays::polyline` meets its contract. The loop's invariant: what is left from pair k on, from pixel `first` and index `index` on,
 -- drawn from the position on what the buffers are now, gives the whole; the trap flag is not set; the array lies in the store, where it
 -- reads as it did at entry; and no segment before took more indexes than the longest line.
-use mathlib.Core.Path.{◌≡◌, refl, ◌∙◌}
-use mathlib.Core.Bool.{false}
-use Prim.Native.Nat.{◌+◌, ◌-◌, ◌*◌, ◌≤◌}
+use mathlib.Core.Path.{refl, ◌∙◌}
+use Prim.Native.Nat.{◌+◌, ◌*◌}
 use native.Mathlib.Omega.{arith}
-use borrow.Author.Rules.{rules}
-use lib.ListN.{length}
 use Rattle.model.specs.Lines.{pairs_at, segments, polyline}
-use Rattle.canvas.specs.Canvas.{canvas}
-use Rattle.canvas.proofs.LoopLaws.{Underway, underway_ready, underway_word}
-use Rattle.traces.specs.Slopes.{longest_line}
-use Rattle.draw_lines.specs.Segments.{Traceable}
+use Rattle.canvas.proofs.LoopLaws.{underway_word}
 use Rattle.canvas.proofs.ReachLaws.{reach_room}
-use Rattle.draw_arrays.proofs.ArrayLaws.{underway_segment, items_first, items_last, pair_at, segment_same, segments_left, segments_next}
+use Rattle.draw_arrays.proofs.ArrayLaws.{underway_segment, items_first, items_last, pair_at, segment_same, segments_next}
 use Rattle.draw_arrays.proofs.polyline.Goals as goal
 
 pub loop-k-init : goal.loop-k-init

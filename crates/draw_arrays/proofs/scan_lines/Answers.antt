@@ -1,18 +1,13 @@
 -- `draw_arrays::scan_lines` meets its contract. The loop's invariant: what is left from triple k on, drawn from the position on what the
 -- buffers are now, gives the whole; the trap flag is not set; and the array lies in the store, where it reads as it did at entry.
-use mathlib.Core.Path.{◌≡◌, refl, ◌∙◌}
-use mathlib.Core.Bool.{false}
-use Prim.Native.Nat.{◌+◌, ◌-◌, ◌*◌, ◌≤◌}
+use mathlib.Core.Path.{refl, ◌∙◌}
+use Prim.Native.Nat.{◌+◌, ◌*◌}
 use native.Mathlib.Omega.{arith}
-use borrow.Author.Rules.{rules}
-use lib.ListN.{length}
 use Rattle.model.specs.Lines.{triples_at, scan_lines}
-use Rattle.canvas.specs.Canvas.{canvas}
-use Rattle.canvas.proofs.LoopLaws.{Underway, underway_ready, underway_word}
-use Rattle.traces.specs.Slopes.{longest_line}
+use Rattle.canvas.proofs.LoopLaws.{underway_word}
 use Rattle.draw_lines.specs.Segments.{whole_line}
 use Rattle.canvas.proofs.ReachLaws.{reach_room}
-use Rattle.draw_arrays.proofs.ArrayLaws.{underway_segment, items_left, items_first, items_last, triple_at, triple_same, scan_lines_next}
+use Rattle.draw_arrays.proofs.ArrayLaws.{underway_segment, items_first, items_last, triple_at, triple_same, scan_lines_next}
 use Rattle.draw_arrays.proofs.scan_lines.Goals as goal
 
 pub loop-k-init : goal.loop-k-init

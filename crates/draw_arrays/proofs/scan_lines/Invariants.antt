@@ -1,18 +1,14 @@
 -- `draw_arrays::scan_lines` meets its contract. The loop's invariant: what is left from triple k on, drawn from the position on what the
 -- buffers are now, gives the whole; the trap flag is not set; and the array lies in the store, where it reads as it did at entry.
-use mathlib.Core.Path.{◌≡◌, refl, ◌∙◌}
+use mathlib.Core.Path.{◌≡◌}
 use mathlib.Core.Bool.{false}
-use Prim.Native.Nat.{◌+◌, ◌-◌, ◌*◌, ◌≤◌}
-use native.Mathlib.Omega.{arith}
-use borrow.Author.Rules.{rules}
+use Prim.Native.Nat.{◌-◌, ◌*◌, ◌≤◌}
 use lib.ListN.{length}
 use Rattle.model.specs.Lines.{triples_at, scan_lines}
 use Rattle.canvas.specs.Canvas.{canvas}
-use Rattle.canvas.proofs.LoopLaws.{Underway, underway_ready, underway_word}
+use Rattle.canvas.proofs.LoopLaws.{Underway}
 use Rattle.traces.specs.Slopes.{longest_line}
-use Rattle.draw_lines.specs.Segments.{whole_line}
-use Rattle.canvas.proofs.ReachLaws.{reach_room}
-use Rattle.draw_arrays.proofs.ArrayLaws.{underway_segment, items_left, items_first, items_last, triple_at, triple_same, scan_lines_next}
+use Rattle.draw_arrays.proofs.ArrayLaws.{items_left, triple_at}
 use Rattle.draw_arrays.proofs.scan_lines.Given as goal
 
 abbrev pub invariant-loop-k : goal.invariant-loop-k

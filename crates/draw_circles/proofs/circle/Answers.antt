@@ -1,6 +1,5 @@
 -- `draw_circles::circle` meets its contract: the circle about the position, which stays.
 use mathlib.Core.Path.{refl, sym}
-use borrow.Author.Rules.{rules}
 use Rattle.model.specs.Circles.{circle}
 use Rattle.draw_circles.proofs.circle.Goals as goal
 

@@ -1,5 +1,4 @@
 -- `draw_circles::draw_centre` meets its contract: a circle of radius 0 is one dot.
-use borrow.Author.Rules.{rules}
 use Rattle.model.specs.Circles.{circle_points, circle}
 use Rattle.canvas.specs.Canvas.{painted_all}
 use Rattle.draw_circles.proofs.draw_centre.Goals as goal

@@ -1,7 +1,6 @@
 -- `draw_circles::draw_circle` meets its contract: the centre alone, nothing where the columns or the rows miss the limits, or the circle on the
 -- sheet of the target, in the buffer that holds it.
 use mathlib.Core.Bool.{◌&&◌}
-use borrow.Author.Rules.{rules}
 use borrow.Author.Tests.{not-true}
 use Rattle.model.proofs.Decisions.{cond_true, cond_false}
 use Rattle.draw_circles.proofs.OutsideLaws.{columns_outside, rows_outside}

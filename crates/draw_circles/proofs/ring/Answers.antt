@@ -1,8 +1,6 @@
 -- `draw_circles::ring` meets its contract. The loop's invariant: the columns before i are drawn, and j is the one that passes for i.
-use Prim.Native.Nat.{suc, ◌-◌, ◌≤◌}
 use native.Mathlib.Omega.{arith}
-use Rattle.draw_circles.proofs.SheetLaws.{sheet_on}
-use Rattle.draw_circles.proofs.EighthLaws.{Walking, walking_first, walking_next, walking_done}
+use Rattle.draw_circles.proofs.EighthLaws.{walking_first, walking_next, walking_done}
 use Rattle.draw_circles.proofs.ring.Goals as goal
 
 pub loop-p-init : goal.loop-p-init

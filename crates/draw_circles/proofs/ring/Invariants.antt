@@ -1,8 +1,6 @@
 -- `draw_circles::ring` meets its contract. The loop's invariant: the columns before i are drawn, and j is the one that passes for i.
-use Prim.Native.Nat.{suc, ◌-◌, ◌≤◌}
-use native.Mathlib.Omega.{arith}
-use Rattle.draw_circles.proofs.SheetLaws.{sheet_on}
-use Rattle.draw_circles.proofs.EighthLaws.{Walking, walking_first, walking_next, walking_done}
+use Prim.Native.Nat.{suc, ◌-◌}
+use Rattle.draw_circles.proofs.EighthLaws.{Walking}
 use Rattle.draw_circles.proofs.ring.Given as goal
 
 abbrev pub invariant-loop-p : goal.invariant-loop-p

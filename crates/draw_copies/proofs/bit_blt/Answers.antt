@@ -1,6 +1,6 @@
 -- `draw_copies::bit_blt` meets its contract: the patch is moved in the order in which rows read as it goes are those
 -- that stood there before.
-use Rattle.std.proofs.Common.{ltb, refl, ◌∙◌, rules}
+use Rattle.std.proofs.Common.{ltb, refl, ◌∙◌}
 use Rattle.model.specs.Copies.{copy}
 use Rattle.draw_copies.proofs.MoveLaws.{read_first}
 use Rattle.draw_copies.proofs.CopyLaws.{patch_movable, ready_readable, within_slidable, copied_within}

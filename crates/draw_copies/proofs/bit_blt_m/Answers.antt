@@ -1,6 +1,6 @@
 -- `draw_copies::bit_blt_m` meets its contract: no row drawn is one of the source, so that values read as it goes are those
 -- that stood there before.
-use Rattle.std.proofs.Common.{false, refl, ◌∙◌, rules}
+use Rattle.std.proofs.Common.{false, refl, ◌∙◌}
 use Rattle.model.specs.Copies.{copy}
 use Rattle.draw_copies.proofs.CopyLaws.{patch_movable, apart_slidable, copied_apart}
 use Rattle.draw_copies.proofs.bit_blt_m.Goals as goal

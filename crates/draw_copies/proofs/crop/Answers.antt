@@ -1,6 +1,6 @@
 -- `draw_copies::crop` meets its contract: what lies between the edges is the extent.
-use Rattle.std.proofs.Common.{arith, rules}
-use Rattle.draw_copies.proofs.CropLaws.{first_high, cropped_none, cropped_some}
+use Rattle.std.proofs.Common.{arith}
+use Rattle.draw_copies.proofs.CropLaws.{first_high, cropped_some}
 use Rattle.draw_copies.proofs.crop.Goals as goal
 
 pub overflow_sub-result-then-e : goal.overflow_sub-result-then-e

@@ -1,10 +1,8 @@
 -- `draw_copies::move_all` meets its contract: after k turns the first k rows are moved, in their order.
-use Rattle.std.proofs.Common.{◌-◌, sym, arith, rules}
+use Rattle.std.proofs.Common.{◌-◌}
 use Rattle.canvas.specs.Canvas.{canvas}
-use Rattle.draw_copies.specs.Transfers.{moved_all}
-use Rattle.draw_copies.proofs.StepLaws.{reversed_if_lt}
-use Rattle.draw_copies.proofs.LoopLaws.{all_steps, all_steps_bounded, moved_none, rows_few}
-use Rattle.draw_copies.proofs.LoopLaws.{Stepped, stepped_none, stepped_next, stepped_all, stepped_movable, stepped_room}
+use Rattle.draw_copies.proofs.LoopLaws.{all_steps}
+use Rattle.draw_copies.proofs.LoopLaws.{Stepped}
 use Rattle.draw_copies.proofs.move_all.Given as goal
 
 abbrev pub invariant-loop-k : goal.invariant-loop-k

@@ -1,5 +1,5 @@
 -- `draw_copies::move_row` meets its contract: the bits of the row copied are its dots drawn.
-use Rattle.std.proofs.Common.{arith, rules}
+use Rattle.std.proofs.Common.{arith}
 use Rattle.draw_copies.proofs.RowLaws.{row_starts, bits_fit, row_moved, row_picked}
 use Rattle.draw_copies.proofs.move_row.Goals as goal
 use Rattle.draw_copies.proofs.move_row.Goals.{After-slice_known-1, After-slice_known-2-1, After-slice_known-3-1, After-slice_known-4-1}

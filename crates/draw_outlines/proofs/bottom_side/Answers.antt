@@ -1,6 +1,5 @@
 -- `draw_outlines::bottom_side` meets its contract: the span that goes back from one pixel before the corner has the third side's pixels.
 use mathlib.Core.Path.{refl}
-use borrow.Author.Rules.{rules}
 use Rattle.draw_outlines.proofs.SideLaws.{side_bottom}
 use Rattle.draw_outlines.proofs.bottom_side.Goals as goal
 

@@ -1,12 +1,11 @@
 -- `draw_outlines::dotted` meets its contract. The loop's invariant: the first k pixels of the part are drawn.
 use mathlib.Core.Path.{refl}
-use Prim.Native.Nat.{◌+◌, ◌-◌}
+use Prim.Native.Nat.{◌+◌}
 use native.Mathlib.Omega.{arith}
-use borrow.Author.Rules.{rules}
 use Rattle.model.specs.Ranges.{listed}
-use Rattle.canvas.specs.Canvas.{canvas, painted_all}
+use Rattle.canvas.specs.Canvas.{painted_all}
 use Rattle.canvas.proofs.CanvasLaws.{listed_length}
-use Rattle.canvas.proofs.LoopLaws.{Painting, painting_lengths, painting_ready, painting_hits, painting_done}
+use Rattle.canvas.proofs.LoopLaws.{painting_ready, painting_hits}
 use Rattle.draw_outlines.specs.Outlines.{outline_dot}
 use Rattle.draw_outlines.proofs.RectLaws.{outline_dot_drawn}
 use Rattle.draw_outlines.proofs.SideLaws.{painted_more}
@@ -17,13 +16,12 @@ unfolding listed painted_all
 loop-k-init c = record { drawn = refl; turn = omega arith }
 
 pub draw_dot-seen-requires : goal.draw_dot-seen-requires
-draw_dot-seen-requires c =
-    (
-      painting_ready _ c.loop-k.invariant c.requires.0,
-      omega (arith, c.outline_offset-offset.ensures.1),
-      omega (arith, c.outline_offset-offset.ensures.2),
-      omega (arith, rw listed_length at (painting_hits _ c.loop-k.invariant), c.loop-k-test.true, c.requires.3),
-    )
+draw_dot-seen-requires c = (
+  painting_ready _ c.loop-k.invariant c.requires.0,
+  omega (arith, c.outline_offset-offset.ensures.1),
+  omega (arith, c.outline_offset-offset.ensures.2),
+  omega (arith, rw listed_length at (painting_hits _ c.loop-k.invariant), c.loop-k-test.true, c.requires.3),
+)
 
 pub loop-k-preserved : goal.loop-k-preserved
 loop-k-preserved c =

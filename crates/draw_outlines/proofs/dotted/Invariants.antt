@@ -1,15 +1,9 @@
 -- `draw_outlines::dotted` meets its contract. The loop's invariant: the first k pixels of the part are drawn.
-use mathlib.Core.Path.{refl}
-use Prim.Native.Nat.{◌+◌, ◌-◌}
-use native.Mathlib.Omega.{arith}
-use borrow.Author.Rules.{rules}
+use Prim.Native.Nat.{◌-◌}
 use Rattle.model.specs.Ranges.{listed}
-use Rattle.canvas.specs.Canvas.{canvas, painted_all}
-use Rattle.canvas.proofs.CanvasLaws.{listed_length}
-use Rattle.canvas.proofs.LoopLaws.{Painting, painting_lengths, painting_ready, painting_hits, painting_done}
+use Rattle.canvas.specs.Canvas.{canvas}
+use Rattle.canvas.proofs.LoopLaws.{Painting}
 use Rattle.draw_outlines.specs.Outlines.{outline_dot}
-use Rattle.draw_outlines.proofs.RectLaws.{outline_dot_drawn}
-use Rattle.draw_outlines.proofs.SideLaws.{painted_more}
 use Rattle.draw_outlines.proofs.dotted.Given as goal
 
 abbrev pub invariant-loop-k : goal.invariant-loop-k

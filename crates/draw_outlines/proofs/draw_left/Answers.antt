@@ -1,6 +1,5 @@
 -- `draw_outlines::draw_left` meets its contract: dot by dot, or as a trace.
 use Prim.Native.Nat.{◌+◌, ◌-◌}
-use borrow.Author.Rules.{rules}
 use Rattle.draw_outlines.proofs.SideLaws.{trace_painted}
 use Rattle.draw_outlines.proofs.draw_left.Goals as goal
 

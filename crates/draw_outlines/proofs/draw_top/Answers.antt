@@ -1,6 +1,5 @@
 -- `draw_outlines::draw_top` meets its contract: dot by dot, or as a span.
 use Prim.Native.Nat.{◌+◌}
-use borrow.Author.Rules.{rules}
 use Rattle.draw_outlines.proofs.SideLaws.{side_painted}
 use Rattle.draw_outlines.proofs.draw_top.Goals as goal
 

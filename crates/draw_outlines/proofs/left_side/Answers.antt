@@ -1,5 +1,4 @@
 -- `draw_outlines::left_side` meets its contract: the trace that goes back from one pixel before the corner has the last side's pixels.
-use borrow.Author.Rules.{rules}
 use Rattle.draw_outlines.proofs.SideLaws.{side_left}
 use Rattle.draw_outlines.proofs.left_side.Goals as goal
 

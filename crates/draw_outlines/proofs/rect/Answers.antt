@@ -1,6 +1,5 @@
 -- `draw_outlines::rect` meets its contract: the outline by its numbers is RECT's.
 use mathlib.Core.Path.{refl}
-use borrow.Author.Rules.{rules}
 use Rattle.model.specs.Coordinates.{coord}
 use Rattle.model.specs.Lines.{rectangle}
 use Rattle.draw_outlines.proofs.RectLaws.{rectangle_dots}

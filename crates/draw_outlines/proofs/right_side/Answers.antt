@@ -1,5 +1,4 @@
 -- `draw_outlines::right_side` meets its contract: the trace from one pixel past the corner has the second side's pixels.
-use borrow.Author.Rules.{rules}
 use Rattle.draw_outlines.proofs.SideLaws.{side_right}
 use Rattle.draw_outlines.proofs.right_side.Goals as goal
 

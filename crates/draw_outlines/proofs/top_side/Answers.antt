@@ -1,6 +1,5 @@
 -- `draw_outlines::top_side` meets its contract: the span from the start in the course's direction has the first side's pixels.
 use mathlib.Core.Path.{refl}
-use borrow.Author.Rules.{rules}
 use Rattle.draw_outlines.proofs.SideLaws.{side_top}
 use Rattle.draw_outlines.proofs.top_side.Goals as goal
 

@@ -1,5 +1,4 @@
 -- `draw_outlines::upright` meets its contract: the pixels of a column, whose minor offset is 0.
-use borrow.Author.Rules.{rules}
 use Rattle.draw_outlines.proofs.SideLaws.{upright_of}
 use Rattle.draw_outlines.proofs.upright.Goals as goal
 

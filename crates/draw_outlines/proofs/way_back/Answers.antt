@@ -1,7 +1,6 @@
 -- `draw_outlines::way_back` meets its contract: the third side, and then the last.
 use Prim.Native.Nat.{◌+◌, ◌-◌}
 use native.Mathlib.Omega.{arith}
-use borrow.Author.Rules.{rules}
 use Rattle.canvas.proofs.CanvasLaws.{listed_length}
 use Rattle.canvas.proofs.PaintLaws.{ready_painted, hits_painted}
 use Rattle.draw_outlines.specs.Outlines.{outline_dot}

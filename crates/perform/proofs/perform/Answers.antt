@@ -2,7 +2,7 @@
 use borrow.Enum.Refused.{opened}
 use Rattle.model.specs.Bitmaps.{pane_surface, pixels}
 use Rattle.perform.proofs.KindLaws.{drawing_draws, record_changes}
-use Rattle.perform.proofs.ReadyLaws.{sound_corner, sound_landing}
+use Rattle.perform.proofs.ReadyLaws.{sound_landing}
 use Rattle.perform.proofs.PerformLaws.{performs_record, performs_drawing}
 use Rattle.perform.proofs.perform.Goals as goal
 

@@ -10,4 +10,4 @@ pub returns : goal.returns
 returns c =
     let same = c.batch_from-b.ensures.none (omega (arith, c.if-b-gt0.false)) in
     advance_obey c.requires (λ k. ((goal.at.returns c).After-slice_known-2-1.type_inv.store k).fits) same.0 same.1
-    (c.obey.auto.0 ∙ c.batch_from-b.kept.0) (c.obey.auto.1.0 ∙ c.batch_from-b.kept.1.0) c.obey.ensures
+    (c.obey.auto.screen ∙ c.batch_from-b.auto.screen) (c.obey.auto.store ∙ c.batch_from-b.auto.store) c.obey.ensures

@@ -4,7 +4,7 @@ use mathlib.Core.Path.{◌≡◌, refl, sym, ap, ◌∙◌}
 use mathlib.Core.Logic.{◌⊎◌, ⊎_elim}
 use Prim.Native.Nat.{ℕ, suc, max, ◌+◌, ◌-◌}
 use native.Mathlib.Omega.{arith}
-use borrow.Author.Rules.{rules}
+use borrow.Enum.Refused.{opened}
 use denote.Enum.Declared.{tag_of}
 use Rattle.model.specs.declared.Command.{Command}
 use Rattle.model.specs.declared.Decoded.{Decoded}
@@ -19,43 +19,28 @@ use Rattle.batches.specs.Batches.{onward}
 use Rattle.batches.proofs.OnwardLaws.{onward_none, onward_zero, onward_idle, onward_more}
 use Rattle.processor.proofs.RunningLaws.{Running, onward_stopped, run_ends}
 use Rattle.processor.proofs.run.Goals as goal
-use Rattle.processor.proofs.run.Goals.{After-advance-s, After-decode-d, After-slice_known-2-1, After-slice_known-in-loop-rest-2-1, At-loop-rest, Decoded}
+use Rattle.processor.proofs.run.Goals.{After-decode-d, After-slice_known-2-1, After-slice_known-in-loop-rest-2-1}
 
 module _ (c : After-decode-d) where
-
-  abbrev head : At-loop-rest
-  head = c.before.before.before.before.before
-
   -- the decoder is asked with the row's length
-  decoded : c.decode-d.result ≡ decode c.args.f.row.len head.loop.store head.loop.q.progress.pointer
-  decoded = c.decode-d.ensures ∙ ap (λ (n : ℕ). decode n head.loop.store head.loop.q.progress.pointer) head.loop.inv.sound.placed.part
-
-  running : head.loop.q.progress.status ≡ status_running
-  running = c.if-q-ne-STATUS_RUNNING.false
+  decoded : c.decode-d.result ≡ decode c.args.f.row.len c.loop-rest.store c.loop-rest.q.progress.pointer
+  decoded =
+      c.decode-d.ensures
+      ∙ ap (λ (n : ℕ). decode n c.loop-rest.store c.loop-rest.q.progress.pointer) c.loop-rest.invariant.sound.placed.part
 
   -- budget is left
-  one_left : suc (head.loop.rest - 1) ≡ head.loop.rest
+  one_left : suc (c.loop-rest.rest - 1) ≡ c.loop-rest.rest
   one_left = omega (arith, c.loop-rest-test.true)
 
   -- what is left to run, from here
   abbrev so_far : Finish
-  so_far = finish head.loop.count head.loop.paint head.loop.q head.loop.screen head.loop.store
+  so_far = finish c.loop-rest.count c.loop-rest.paint c.loop-rest.q c.loop-rest.screen c.loop-rest.store
 
-  from_here : onward c.args.f.geometry c.args.f.row (suc (head.loop.rest - 1)) so_far
+  from_here : onward c.args.f.geometry c.args.f.row (suc (c.loop-rest.rest - 1)) so_far
       ≡ runs c.args.f.geometry c.args.f.row c.args.budget c.args.p c.args.screen.now c.args.store.now
   from_here =
       ap (λ (n : ℕ). onward c.args.f.geometry c.args.f.row n so_far) one_left
-      ∙ head.loop.inv.same
-
--- ## The end, or a fault
--- a command's tag is the first
-no_command : (d : Decoded) → (tag_of the_type d ≡ 1) ⊎ (tag_of the_type d ≡ 2) → (c : Command) (next : ℕ) → d ≡ Do c next → ⊥
-no_command d h c next e =
-    let z : tag_of the_type d ≡ 0 = ap (tag_of the_type) e in
-    ⊎_elim (λ f. omega arith) (λ f. omega arith) h
-
-abbrev lap : After-advance-s → At-loop-rest
-lap c = head c.before.before.before.before.before.before
+      ∙ c.loop-rest.invariant.same
 
 pub loop-rest-init : goal.loop-rest-init
 loop-rest-init c = record {
@@ -76,49 +61,76 @@ returns-then-q-ne-STATUS_RUNNING c =
     (run_ends l.rest c.ranges.budget.fits l.invariant.spent l.invariant.few
     (sym (onward_idle _ _ l.rest (finish l.count l.paint l.q l.screen l.store) c.if-q-ne-STATUS_RUNNING.true) ∙ l.invariant.same))
 
+-- ## The end, or a fault
+
+-- a command's tag is the first
+no_command : (d : Decoded) → (tag_of the_type d ≡ 1) ⊎ (tag_of the_type d ≡ 2) → (c : Command) (next : ℕ) → d ≡ Do c next → ⊥
+no_command d h c next e =
+    let z : tag_of the_type d ≡ 0 = ap (tag_of the_type) e in
+    ⊎_elim (λ f. omega arith) (λ f. omega arith) h
+
 pub returns-in_default : goal.returns-in_default
 returns-in_default c =
-    let l = (head (goal.at.returns-in_default c).After-decode-d).loop in
+    let l = c.loop-rest in
+    let d = (goal.at.returns-in_default c).After-decode-d in
     rw c.finish_with-in_default.ensures
-    (run_ends l.rest c.ranges.budget.fits l.inv.spent l.inv.few
+    (run_ends l.rest c.ranges.budget.fits l.invariant.spent l.invariant.few
     (sym (onward_stopped c.args.f.geometry c.args.f.row (l.rest - 1) l.count l.paint l.q c.stopped-end.result
-    l.screen l.store c.decode-d.result (running (goal.at.returns-in_default c).After-decode-d) (decoded (goal.at.returns-in_default c).After-decode-d) (no_command c.decode-d.result c.in_default.in_default-own.keys2) c.stopped-end.ensures)
-    ∙ from_here (goal.at.returns-in_default c).After-decode-d))
+    l.screen l.store c.decode-d.result c.if-q-ne-STATUS_RUNNING.false (decoded d)
+    (no_command c.decode-d.result (opened c.in_default.in_default-own.keys2)) c.stopped-end.ensures)
+    ∙ from_here d))
 
 -- ## A command
+
 pub advance-s-requires : goal.advance-s-requires
 advance-s-requires c =
-    let l = (head (goal.at.advance-s-requires c).After-decode-d).loop in
+    let l = c.loop-rest in
+    let told = sym (decoded (goal.at.advance-s-requires c).After-decode-d) ∙ c.in-Do.is in
     record {
-      sound = l.inv.sound;
-      running = running (goal.at.advance-s-requires c).After-decode-d
-      told = sym (decoded (goal.at.advance-s-requires c).After-decode-d) ∙ c.in-Do.is;
-      addressed =
-          decode_addressed c.args.f.row.len l.store l.q.progress.pointer _ c.in-Do.next l.inv.bytes
-          (sym (decoded (goal.at.advance-s-requires c).After-decode-d) ∙ c.in-Do.is);
+      sound = l.invariant.sound;
+      running = c.if-q-ne-STATUS_RUNNING.false;
+      told = told;
+      addressed = decode_addressed c.args.f.row.len l.store l.q.progress.pointer _ c.in-Do.next l.invariant.bytes told;
       some = c.loop-rest-test.true;
     }
 
+pub overflow_add-count : goal.overflow_add-count
+overflow_add-count c =
+    record { fits = omega (arith, c.loop-rest.invariant.spent, c.advance-s.ensures.within, c.ranges.budget.fits) }
+
+pub overflow_add-paint : goal.overflow_add-paint
+overflow_add-paint c =
+    omega (
+      arith,
+      c.loop-rest.invariant.few,
+      c.loop-rest.invariant.spent,
+      c.advance-s.ensures.few,
+      c.advance-s.ensures.within,
+      c.ranges.budget.fits,
+    )
+
 pub loop-rest-preserved : goal.loop-rest-preserved
 loop-rest-preserved c =
-    let l = (lap (goal.at.loop-rest-preserved c).After-advance-s).loop in
-    let f = (entry (lap (goal.at.loop-rest-preserved c).After-advance-s)).args.f in
+    let l = c.loop-rest in
+    let f = c.args.f in
     let s = c.advance-s.result in
     let e = c.advance-s.ensures in
     record {
       sound = e.sound;
       bytes = λ i. ((goal.at.loop-rest-preserved c).After-slice_known-in-loop-rest-2-1.type_inv.store i).fits;
-      wide = c.advance-s.kept.0 ∙ l.inv.wide;
-      tall = c.advance-s.kept.1.0 ∙ l.inv.tall;
-      spent = omega (arith, l.inv.spent, c.larger-rest.ensures, e.within);
-      few = omega (arith, l.inv.few, e.few);
+      wide = c.advance-s.auto.screen ∙ l.invariant.wide;
+      tall = c.advance-s.auto.store ∙ l.invariant.tall;
+      spent = omega (arith, l.invariant.spent, c.larger-rest.ensures, e.within);
+      few = omega (arith, l.invariant.few, e.few);
       same =
           ap (λ (n : ℕ). onward f.geometry f.row (l.rest - n)
-          (finish (l.count + s.count) (l.paint + s.paint) s.pane c.advance-s.last.0 c.advance-s.last.1.0)) c.larger-rest.ensures
+          (finish (l.count + s.count) (l.paint + s.paint) s.pane c.advance-s.new.screen c.advance-s.new.store)) c.larger-rest.ensures
           ∙ onward_more f.geometry f.row (l.rest - max 1 s.count) l.rest l.count l.paint s.count s.paint l.q s.pane
           l.screen l.store _ _ e.leaves
-          ∙ l.inv.same;
+          ∙ l.invariant.same;
     }
+
+-- ## A spent budget
 
 pub returns : goal.returns
 returns c =

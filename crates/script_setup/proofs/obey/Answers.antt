@@ -1,6 +1,5 @@
 -- Each line by its kind; a call, or a malformed line, prints ?.
 use mathlib.Core.Path.{◌∙◌}
-use borrow.Author.Rules.{rules}
 use Rattle.script_session.specs.SessionState.{after_line}
 use Rattle.script_session.proofs.SessionLaws.{reaction_of_step}
 use Rattle.script_setup.proofs.obey.Goals as goal

@@ -1,7 +1,6 @@
 -- Misplaced without `s`, or set-up on the bytes in use.
 use mathlib.Core.Path.{◌∙◌}
 use lib.ListN.{take-append-drop}
-use borrow.Author.Rules.{rules}
 use Rattle.model.specs.Calls.{set_up}
 use Rattle.script_lines.specs.Lines.{letter_open}
 use Rattle.script_session.specs.SessionState.{after_set_up, after_line}

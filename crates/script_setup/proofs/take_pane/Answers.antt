@@ -1,11 +1,6 @@
 -- Misplaced by the definition's test, or taken.
 use mathlib.Core.Path.{◌∙◌}
-use Prim.Native.Nat.{◌+◌, ◌≤◌, ◌<◌}
-use native.Mathlib.Omega.{arith}
-use borrow.Author.Rules.{rules}
-use borrow.Author.Tests.{leb-false, ltb-false}
-use Rattle.model.proofs.Decisions.{either_false}
-use Rattle.script_session.specs.SessionState.{most_stores, most_panes, after_line}
+use Rattle.script_session.specs.SessionState.{after_line}
 use Rattle.script_session.proofs.SessionLaws.{reaction_of_step}
 use Rattle.script_setup.proofs.take_pane.Goals as goal
 

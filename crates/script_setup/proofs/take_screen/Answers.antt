@@ -1,8 +1,6 @@
 -- Misplaced by the definition's test, or taken.
 use mathlib.Core.Path.{◌∙◌}
 use Prim.Native.Nat.{◌≤◌}
-use native.Mathlib.Omega.{arith}
-use borrow.Author.Rules.{rules}
 use borrow.Author.Tests.{ltb-false}
 use Rattle.model.proofs.Decisions.{either_false}
 use Rattle.script_session.specs.SessionState.{most_screen, after_line}

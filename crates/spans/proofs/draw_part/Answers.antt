@@ -1,7 +1,6 @@
 -- `spans::draw_part` meets its contract: the stretch that the strips draw is what the span's dots change.
 use mathlib.Core.Path.{sym, ◌∙◌}
 use native.Mathlib.Omega.{arith}
-use borrow.Author.Rules.{rules}
 use lib.ListN.{length}
 use Rattle.model.proofs.Decisions.{cond_true, cond_false}
 use Rattle.strips.proofs.DottedLaws.{woven_table}
@@ -70,8 +69,7 @@ stretch-requires-else-area c =
 pub returns-then-area : goal.returns-then-area
 returns-then-area c =
     let a = c.args in
-    let o = c.if-area.true in
-    (
+    let o = c.if-area.true in (
       part_changes a.t a.s a.e a.screen.now a.store.now c.requires.0 c.requires.3 c.requires.4 c.requires.1
           (screen_fits a.screen.now a.store.now c.requires.0 o) (λ k. ((goal.at.returns-then-area c).After-slice_known-1.type_inv.screen k).fits)
           (λ k. ((goal.at.returns-then-area c).After-slice_known-then-area-1.type_inv.screen k).fits) c.leftmost-x.result c.phase_of-phase.result c.leftmost-x.ensures c.phase_of-phase.ensures.0
@@ -84,8 +82,7 @@ returns-then-area c =
 pub returns-else-area : goal.returns-else-area
 returns-else-area c =
     let a = c.args in
-    let o = c.if-area.false in
-    (
+    let o = c.if-area.false in (
       sym (cond_false _ _ o),
       part_changes a.t a.s a.e a.screen.now a.store.now c.requires.0 c.requires.3 c.requires.4 c.requires.1
           (store_fits a.screen.now a.store.now c.requires.0 o) (λ k. ((goal.at.returns-else-area c).After-slice_known-2-1.type_inv.store k).fits)

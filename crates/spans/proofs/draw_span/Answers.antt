@@ -2,7 +2,6 @@
 use mathlib.Core.Path.{◌≡◌, sym, ◌∙◌}
 use Prim.Native.Nat.{◌+◌, ◌-◌}
 use native.Mathlib.Omega.{arith}
-use borrow.Author.Rules.{rules}
 use Rattle.model.specs.Dots.{hits}
 use Rattle.canvas.specs.Canvas.{canvas}
 use Rattle.strips.specs.Strokes.{pattern_on}

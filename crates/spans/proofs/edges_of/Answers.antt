@@ -1,6 +1,5 @@
 -- `spans::edges_of` meets its contract: a row outside the clip has no pixel in it, and in a row of the clip the columns decide.
-use borrow.Author.Rules.{rules}
-use Rattle.spans.proofs.EdgesLaws.{row_above, row_below, row_inside}
+use Rattle.spans.proofs.EdgesLaws.{row_inside}
 use Rattle.spans.proofs.edges_of.Goals as goal
 
 pub returns : goal.returns

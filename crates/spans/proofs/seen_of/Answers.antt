@@ -1,6 +1,5 @@
 -- `spans::seen_of` meets its contract: under transparency the pattern's 1s are counted.
 use mathlib.Core.Path.{◌∙◌}
-use borrow.Author.Rules.{rules}
 use Rattle.spans.proofs.DrawLaws.{seen_from}
 use Rattle.spans.proofs.seen_of.Goals as goal
 

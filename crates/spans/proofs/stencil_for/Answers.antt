@@ -1,10 +1,5 @@
 -- `spans::stencil_for` meets its contract: the numbers of the visible part are small.
-use mathlib.Core.Path.{refl}
-use Prim.Native.Nat.{◌+◌, ◌*◌, ◌/◌, ◌%◌}
 use native.Mathlib.Omega.{arith}
-use borrow.Author.Rules.{rules}
-use Rattle.model.proofs.PlaceLaws.{depth_bounds}
-use Rattle.spans.specs.Spans.{leftmost_of}
 use Rattle.spans.proofs.DrawLaws.{ShortSized, short_columns, short_sized}
 use Rattle.spans.proofs.stencil_for.Goals as goal
 use Rattle.spans.proofs.stencil_for.Goals.{After-leftmost}

@@ -1,5 +1,5 @@
 -- `traces::draw_part` meets its contract: the buffer that holds the bitmap is walked on, the other stays.
-use Rattle.std.proofs.Common.{ℕ, List, sym, ◌∙◌, rules}
+use Rattle.std.proofs.Common.{ℕ, List, sym, ◌∙◌}
 use Rattle.model.specs.Bitmaps.{Fits}
 use Rattle.model.proofs.Decisions.{cond_true, cond_false}
 use Rattle.spans.proofs.DrawLaws.{screen_fits, store_fits}

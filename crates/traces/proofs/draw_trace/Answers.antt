@@ -1,5 +1,5 @@
 -- `traces::draw_trace` meets its contract: the pixels outside the clip are left out, and those inside are drawn.
-use Rattle.std.proofs.Common.{◌≡◌, ◌+◌, ◌-◌, sym, ◌∙◌, arith, rules}
+use Rattle.std.proofs.Common.{◌≡◌, ◌+◌, ◌-◌, sym, ◌∙◌, arith}
 use Rattle.model.specs.Dots.{hits}
 use Rattle.canvas.specs.Canvas.{canvas}
 use Rattle.strips.specs.Strokes.{pattern_on}

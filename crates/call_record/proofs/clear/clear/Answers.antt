@@ -2,7 +2,6 @@
 use mathlib.Core.Path.{refl}
 use Rattle.model.specs.Calls.{own_refusal, on_pane}
 use Rattle.call_common.proofs.CallLaws.{exec_refused, exec_record}
-use borrow.Author.Rules.{rules}
 use Rattle.call_record.proofs.clear.clear.Goals as goal
 
 pub returns-then-admission-ne0 : goal.returns-then-admission-ne0

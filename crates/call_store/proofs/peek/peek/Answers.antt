@@ -1,9 +1,8 @@
 -- Peek answers a byte of the pane's part of the stores, which is lent on, and keeps everything.
 use mathlib.Core.Path.{refl}
 use Rattle.model.specs.Calls.{part, on_pane}
-use Rattle.call_common.proofs.CallLaws.{exec_refused, exec_refused_own, store_room, length_store_part, exec_value}
+use Rattle.call_common.proofs.CallLaws.{exec_refused, exec_refused_own, length_store_part, exec_value}
 use Rattle.call_store.proofs.StoreLaws.{peek_below}
-use borrow.Author.Rules.{rules}
 use Rattle.call_store.proofs.peek.peek.Goals as goal
 
 pub returns-then-admission-ne0 : goal.returns-then-admission-ne0

@@ -1,6 +1,5 @@
 -- Peek's own refusal, as `own_refusal` has it.
 use Rattle.model.specs.Calls.{own_refusal}
-use borrow.Author.Rules.{rules}
 use Rattle.call_store.proofs.peek.peek_refusal.Goals as goal
 
 pub returns : goal.returns

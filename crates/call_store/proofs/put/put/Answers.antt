@@ -4,7 +4,6 @@ use Rattle.model.specs.declared.Reply.TheVariants as reply
 use Rattle.model.specs.Calls.{part, in_part, on_pane}
 use Rattle.call_common.proofs.CallLaws.{exec_refused, exec_refused_own, store_room, length_store_part, exec_store}
 use Rattle.call_store.proofs.StoreLaws.{put_room}
-use borrow.Author.Rules.{rules}
 use Rattle.call_store.proofs.put.put.Goals as goal
 
 pub returns-then-admission-ne0 : goal.returns-then-admission-ne0

@@ -9,7 +9,6 @@ use Rattle.model.specs.Numbers.{refuse_end}
 use Rattle.model.proofs.Decisions.{cond_true}
 use Rattle.model.specs.Calls.{own_refusal}
 use Rattle.call_store.proofs.PartLaws.{ltb_room}
-use borrow.Author.Rules.{rules}
 use Rattle.call_store.proofs.put.put_refusal.Goals as goal
 
 pub returns-then-row-address : goal.returns-then-row-address

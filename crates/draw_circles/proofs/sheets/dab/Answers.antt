@@ -2,8 +2,6 @@
 use mathlib.Core.Path.{◌≡◌}
 use mathlib.Core.Bool.{true, ◌&&◌}
 use native.Mathlib.Omega.{arith}
-use borrow.Author.Rules.{rules}
-use borrow.Author.Tests.{not-true, not-false}
 use Rattle.draw_circles.specs.Sheets.{InLimits}
 use Rattle.draw_circles.proofs.SheetLaws.{DabSized, dab_sized, dab_in, dab_stamped, dab_off}
 use Rattle.draw_circles.proofs.sheets.dab.Goals as goal

@@ -1,7 +1,6 @@
 -- `draw_circles::sheets::mirrored` meets its contract: the four places, each drawn if it is in the limits and is not there yet.
 use mathlib.Core.Bool.{true, false}
 use native.Mathlib.Omega.{arith}
-use borrow.Author.Rules.{rules}
 use lib.Dec.{ltb}
 use Rattle.draw_circles.proofs.SheetLaws.{sheet_on}
 use Rattle.draw_circles.proofs.MirrorLaws.{place_limits, mirrored_dabbed}

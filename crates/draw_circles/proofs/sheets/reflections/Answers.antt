@@ -1,9 +1,6 @@
 -- `draw_circles::sheets::reflections` meets its contract. The loop's invariant: before the second turn (x,y) is drawn mirrored, and x is not y.
-use Prim.Native.Nat.{◌-◌}
 use native.Mathlib.Omega.{arith}
-use borrow.Author.Rules.{rules}
-use Rattle.draw_circles.proofs.SheetLaws.{sheet_on}
-use Rattle.draw_circles.proofs.MirrorLaws.{Turning, turning_first, turning_room, turning_next, turning_diagonal, turning_done}
+use Rattle.draw_circles.proofs.MirrorLaws.{turning_first, turning_next, turning_diagonal}
 use Rattle.draw_circles.proofs.sheets.reflections.Goals as goal
 
 pub loop-turn-init : goal.loop-turn-init

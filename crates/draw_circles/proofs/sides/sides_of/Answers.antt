@@ -1,10 +1,8 @@
 -- `draw_circles::sides::sides_of` meets its contract: both sides are known to lie in the limits, or each is tested.
-use mathlib.Core.Path.{sym, ap}
-use mathlib.Core.Bool.{Bool, true, false, ◌&&◌}
-use borrow.Author.Rules.{rules}
+use mathlib.Core.Path.{sym}
+use mathlib.Core.Bool.{true, false}
 use lib.Dec.{ltb}
 use Rattle.model.proofs.Decisions.{and_true}
-use Rattle.draw_circles.proofs.SideLaws.{side_in_lem}
 use Rattle.draw_circles.proofs.sides.sides_of.Goals as goal
 
 pub returns-then-inside : goal.returns-then-inside

@@ -1,11 +1,9 @@
 -- `draw_circles::tables::blank` meets its contract. The loop's invariant: the bytes before i are 255, all others 0.
 use mathlib.Core.Path.{◌≡◌, ap, ◌∙◌}
 use mathlib.Core.List.{List, ◌++◌}
-use Prim.Native.Nat.{ℕ, ◌-◌, ◌≤◌}
+use Prim.Native.Nat.{ℕ}
 use native.Mathlib.Omega.{arith}
-use borrow.Author.Fill.{fill_none, fill_more}
-use borrow.Author.Rules.{rules}
-use lib.ListN.{length, drop, replicate, set}
+use lib.ListN.{length, drop, replicate}
 use Rattle.draw_circles.proofs.TableLaws.{blank_is}
 use Rattle.draw_circles.proofs.tables.blank.Goals as goal
 

@@ -1,6 +1,5 @@
 -- `draw_circles::tables::stamps_for` meets its contract: in pick mode stamps that change nothing, else the pen's.
 use mathlib.Core.Path.{sym, ◌∙◌}
-use borrow.Author.Rules.{rules}
 use Rattle.strips.proofs.StretchLaws.{true_false}
 use Rattle.draw_circles.proofs.tables.stamps_for.Goals as goal
 

@@ -1,6 +1,5 @@
 -- `draw_lines::commands::line` meets its contract: the dots of a whole line, and the position moved to its far end.
 use mathlib.Core.Path.{refl}
-use borrow.Author.Rules.{rules}
 use Rattle.model.specs.Lines.{line}
 use Rattle.draw_lines.proofs.commands.line.Goals as goal
 

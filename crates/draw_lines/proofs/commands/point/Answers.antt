@@ -1,6 +1,5 @@
 -- `draw_lines::commands::point` meets its contract: the dot where the position has moved to, with pattern index 0.
 use mathlib.Core.Path.{refl}
-use borrow.Author.Rules.{rules}
 use Rattle.model.specs.Lines.{point_at}
 use Rattle.draw_lines.proofs.SegmentLaws.{point_at_drawn}
 use Rattle.draw_lines.proofs.commands.point.Goals as goal

@@ -1,5 +1,4 @@
 -- `draw_lines::segments::draw_segment` meets its contract: a long horizontal segment is a span, and any other is traced.
-use borrow.Author.Rules.{rules}
 use Rattle.draw_lines.proofs.SegmentLaws.{trace_painted}
 use Rattle.draw_lines.proofs.segments.draw_segment.Goals as goal
 

@@ -2,7 +2,6 @@
 use mathlib.Core.Path.{ap}
 use Prim.Native.Nat.{ℕ, ◌+◌, ◌-◌}
 use native.Mathlib.Omega.{arith}
-use borrow.Author.Rules.{rules}
 use Rattle.model.specs.Coordinates.{coord}
 use Rattle.draw_lines.proofs.SegmentLaws.{level_dots}
 use Rattle.draw_lines.proofs.segments.level_span.Goals as goal

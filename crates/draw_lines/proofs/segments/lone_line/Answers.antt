@@ -1,6 +1,5 @@
 -- `draw_lines::segments::lone_line` meets its contract: its span has the segment's dots.
 use mathlib.Core.Path.{ap, ◌∙◌}
-use borrow.Author.Rules.{rules}
 use Rattle.canvas.specs.Canvas.{canvas, painted_all}
 use Rattle.draw_lines.proofs.segments.lone_line.Goals as goal
 

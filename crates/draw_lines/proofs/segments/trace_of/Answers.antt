@@ -1,6 +1,5 @@
 -- `draw_lines::segments::trace_of` meets its contract.
 use mathlib.Core.Path.{ap}
-use borrow.Author.Rules.{rules}
 use Rattle.model.specs.Coordinates.{coord}
 use Rattle.canvas.specs.declared.Course.{Course}
 use Rattle.draw_lines.proofs.SegmentLaws.{trace_dots_lem, trace_small}

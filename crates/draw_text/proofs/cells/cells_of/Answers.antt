@@ -1,5 +1,4 @@
 -- `draw_text::cells::cells_of` meets its contract.
-use Rattle.std.proofs.Common.{rules}
 use Rattle.draw_text.proofs.CellLaws.{cells_are}
 use Rattle.draw_text.proofs.cells.cells_of.Goals as goal
 

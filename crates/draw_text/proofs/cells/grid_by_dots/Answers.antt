@@ -1,9 +1,9 @@
 -- `draw_text::cells::grid_by_dots` meets its contract. The loop's invariant: the first rows are painted.
-use Rattle.std.proofs.Common.{◌-◌, refl, arith, rules}
+use Rattle.std.proofs.Common.{refl, arith}
 use Rattle.model.specs.Ranges.{joined}
-use Rattle.canvas.specs.Canvas.{canvas, painted_all}
-use Rattle.canvas.proofs.LoopLaws.{Painting, painting_lengths, painting_ready, painting_hits, painting_list, painting_done}
-use Rattle.draw_text.specs.Cells.{row_dots, grid_row, rows_from}
+use Rattle.canvas.specs.Canvas.{painted_all}
+use Rattle.canvas.proofs.LoopLaws.{painting_ready, painting_hits, painting_list}
+use Rattle.draw_text.specs.Cells.{row_dots, grid_row}
 use Rattle.draw_text.proofs.CellLaws.{rows_length}
 use Rattle.draw_text.proofs.cells.grid_by_dots.Goals as goal
 

@@ -1,5 +1,5 @@
 -- `draw_text::cells::grid_of` meets its contract: the rows are read, and turned where they go along y.
-use Rattle.std.proofs.Common.{arith, rules}
+use Rattle.std.proofs.Common.{arith}
 use Rattle.draw_text.proofs.CellLaws.{grid_is}
 use Rattle.draw_text.proofs.cells.grid_of.Goals as goal
 

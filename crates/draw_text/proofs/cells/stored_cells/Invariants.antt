@@ -1,7 +1,6 @@
 -- `draw_text::cells::stored_cells` meets its contract. The loop's invariant: the rows so far are read.
-use Rattle.std.proofs.Common.{◌≡◌, ℕ, ◌-◌, ◌≤◌, length, refl, ◌∙◌, subst, arith, length-set, rules}
-use Rattle.draw_text.specs.Cells.{CellsOf, StoredCells}
-use Rattle.draw_text.proofs.CellLaws.{stored_none, stored_next}
+use Rattle.std.proofs.Common.{◌≡◌, ◌-◌, ◌≤◌, length}
+use Rattle.draw_text.specs.Cells.{StoredCells}
 use Rattle.draw_text.proofs.cells.stored_cells.Given as goal
 
 abbrev pub invariant-loop-number : goal.invariant-loop-number

@@ -1,7 +1,7 @@
 -- `draw_text::rows::draw_grid` meets its contract: a grid beside or below the clip draws nothing, pick mode only counts, else the rows in the clip are
 -- drawn, or all dots where the buffer ends too early.
-use Rattle.std.proofs.Common.{◌≡◌, ℕ, ◌-◌, List, length, sym, ◌∙◌, subst, arith, rules}
-use Rattle.model.specs.Dots.{Dot, hits}
+use Rattle.std.proofs.Common.{◌≡◌, ℕ, ◌-◌, List, length, sym, ◌∙◌, subst, arith}
+use Rattle.model.specs.Dots.{Dot}
 use Rattle.model.proofs.Decisions.{cond_true, cond_false}
 use Rattle.canvas.specs.Canvas.{canvas, painted_all}
 use Rattle.canvas.proofs.BufferLaws.{picked_painted, screen_painted, store_painted}

@@ -1,12 +1,8 @@
 -- `draw_text::rows::draw_rows` meets its contract. The loop's invariant: the rows so far are drawn, whatever grid they are of.
-use Rattle.std.proofs.Common.{◌≡◌, ◌-◌, ◌≤◌, length, refl, ◌∙◌, arith, rules}
-use Rattle.model.specs.Pixels.{changes}
-use Rattle.model.specs.Dots.{changes_of}
-use Rattle.strips.proofs.FieldBits.{Bytes}
+use Rattle.std.proofs.Common.{◌≡◌, length, refl, ◌∙◌, arith}
 use Rattle.canvas.specs.Targets.{Ready}
-use Rattle.draw_text.specs.declared.cells.Grid.{Grid}
-use Rattle.draw_text.specs.Cells.{grid_row, rows_from}
-use Rattle.draw_text.specs.Rows.{Planned, RowsMet}
+use Rattle.draw_text.specs.Cells.{grid_row}
+use Rattle.draw_text.specs.Rows.{Planned}
 use Rattle.draw_text.proofs.RowLaws.{row_drawn, row_in, changes_none, changes_next}
 use Rattle.draw_text.proofs.rows.draw_rows.Goals as goal
 use Rattle.draw_text.proofs.rows.draw_rows.Goals.{After-slice_known-1, After-slice_known-in-loop-number-1}

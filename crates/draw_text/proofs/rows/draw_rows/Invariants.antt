@@ -1,13 +1,11 @@
 -- `draw_text::rows::draw_rows` meets its contract. The loop's invariant: the rows so far are drawn, whatever grid they are of.
-use Rattle.std.proofs.Common.{◌≡◌, ◌-◌, ◌≤◌, length, refl, ◌∙◌, arith, rules}
+use Rattle.std.proofs.Common.{◌≡◌, ◌-◌, ◌≤◌, length}
 use Rattle.model.specs.Pixels.{changes}
 use Rattle.model.specs.Dots.{changes_of}
 use Rattle.strips.proofs.FieldBits.{Bytes}
-use Rattle.canvas.specs.Targets.{Ready}
 use Rattle.draw_text.specs.declared.cells.Grid.{Grid}
-use Rattle.draw_text.specs.Cells.{grid_row, rows_from}
-use Rattle.draw_text.specs.Rows.{Planned, RowsMet}
-use Rattle.draw_text.proofs.RowLaws.{row_drawn, row_in, changes_none, changes_next}
+use Rattle.draw_text.specs.Cells.{rows_from}
+use Rattle.draw_text.specs.Rows.{RowsMet}
 use Rattle.draw_text.proofs.rows.draw_rows.Given as goal
 
 abbrev pub invariant-loop-number : goal.invariant-loop-number

@@ -1,5 +1,5 @@
 -- `draw_text::rows::roomy` meets its contract: room for the lowest row is room for all.
-use Rattle.std.proofs.Common.{◌+◌, ◌*◌, ◌/◌, ◌≤◌, ap, ◌∙◌, arith, rules, leb-true}
+use Rattle.std.proofs.Common.{◌+◌, ◌*◌, ◌/◌, ◌≤◌, ap, ◌∙◌, arith, leb-true}
 use Rattle.draw_text.specs.Rows.{row_start, RowInside}
 use Rattle.draw_text.proofs.RowLaws.{lowest_in, row_in, rows_roomy, start_small, stencil_small}
 use Rattle.draw_text.proofs.rows.roomy.Goals as goal

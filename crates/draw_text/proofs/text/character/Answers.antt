@@ -1,5 +1,5 @@
 -- `draw_text::text::character` meets its contract: the cells at the position, the position moved, the trap flag set by T.
-use Rattle.std.proofs.Common.{ℕ, ◌+◌, ◌*◌, ◌<◌, ◌||◌, List, length, ap, ◌∙◌, arith, rules}
+use Rattle.std.proofs.Common.{ℕ, ◌+◌, ◌*◌, ◌<◌, ◌||◌, List, length, ap, ◌∙◌, arith}
 use Rattle.model.specs.Words.{bit}
 use Rattle.model.specs.Dots.{Dot}
 use Rattle.model.specs.Glyphs.{height_of, passed}

@@ -1,7 +1,7 @@
 -- `draw_text::text::draw_string` meets its contract. The loop's invariant: what is left of the string, drawn on from here, gives the whole.
-use Rattle.std.proofs.Common.{◌-◌, ◌<◌, arith, rules}
+use Rattle.std.proofs.Common.{◌<◌, arith, rules}
 use Rattle.draw_text.proofs.LegibleLaws.{legible_spelt}
-use Rattle.draw_text.proofs.WritingLaws.{Writing, writing_first, writing_ready, writing_next, writing_last}
+use Rattle.draw_text.proofs.WritingLaws.{writing_ready, writing_next, writing_last}
 use Rattle.draw_text.proofs.text.draw_string.Goals as goal
 
 pub descriptor_of-at-requires : goal.descriptor_of-at-requires

@@ -26,30 +26,30 @@ circle-requires c = drawing_ready c.requires c.target_of-t.ensures c.in-Circle.i
 
 pub polyline-requires : goal.polyline-requires
 polyline-requires c = (
-      drawing_ready c.requires c.target_of-t.ensures c.in-Polyline.is (hit drawing_tags 20 tt),
-      omega arith,
-      polyline_reach c.requires c.target_of-t.ensures c.in-Polyline.is,
-    )
+  drawing_ready c.requires c.target_of-t.ensures c.in-Polyline.is (hit drawing_tags 20 tt),
+  omega arith,
+  polyline_reach c.requires c.target_of-t.ensures c.in-Polyline.is,
+)
 
 pub scan_lines-requires : goal.scan_lines-requires
 scan_lines-requires c = (
-      drawing_ready c.requires c.target_of-t.ensures c.in-ScanLines.is (hit drawing_tags 24 tt),
-      omega arith,
-      scan_lines_reach c.requires c.target_of-t.ensures c.in-ScanLines.is,
-    )
+  drawing_ready c.requires c.target_of-t.ensures c.in-ScanLines.is (hit drawing_tags 24 tt),
+  omega arith,
+  scan_lines_reach c.requires c.target_of-t.ensures c.in-ScanLines.is,
+)
 
 pub bit_blt-requires : goal.bit_blt-requires
 bit_blt-requires c = (
-      drawing_ready c.requires c.target_of-t.ensures c.in-BitBlt.is (hit drawing_tags 19 tt),
-      bit_blt_inside c.requires c.target_of-t.ensures c.in-BitBlt.is,
-    )
+  drawing_ready c.requires c.target_of-t.ensures c.in-BitBlt.is (hit drawing_tags 19 tt),
+  bit_blt_inside c.requires c.target_of-t.ensures c.in-BitBlt.is,
+)
 
 pub bit_blt_m-requires : goal.bit_blt_m-requires
 bit_blt_m-requires c = (
-      drawing_ready c.requires c.target_of-t.ensures c.in-BitBltM.is (hit drawing_tags 23 tt),
-      bit_blt_m_copyable c.requires c.target_of-t.ensures c.in-BitBltM.is
-          (c.area_of-source.ensures ∙ ap (area_of c.args.f.geometry c.args.f.row) c.source_of.ensures.0),
-    )
+  drawing_ready c.requires c.target_of-t.ensures c.in-BitBltM.is (hit drawing_tags 23 tt),
+  bit_blt_m_copyable c.requires c.target_of-t.ensures c.in-BitBltM.is
+      (c.area_of-source.ensures ∙ ap (area_of c.args.f.geometry c.args.f.row) c.source_of.ensures.0),
+)
 
 pub draw_string-requires : goal.draw_string-requires
 draw_string-requires c = char_writable c.requires c.target_of-t.ensures c.in-Char.is

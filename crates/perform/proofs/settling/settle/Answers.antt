@@ -1,7 +1,6 @@
 -- `perform::settling::settle` meets its contract, by the command. First what the arms ask, and then what they answer: the definition's clause
 -- for the command, told by the arm.
 use mathlib.Core.Path.{refl}
-use borrow.Author.Rules.{rules}
 use Rattle.model.specs.Effects.{effect_of}
 use Rattle.perform.proofs.SettleLaws.{settles, settles_not, call_room, return_kept}
 use Rattle.perform.proofs.settling.settle.Goals as goal

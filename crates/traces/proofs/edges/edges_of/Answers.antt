@@ -1,5 +1,4 @@
 -- `traces::edges::edges_of` meets its contract, where x is the major axis and where y is.
-use Rattle.std.proofs.Common.{rules}
 use Rattle.traces.proofs.EdgeLaws.{edges_level, edges_steep}
 use Rattle.traces.proofs.edges.edges_of.Goals as goal
 

@@ -1,5 +1,5 @@
 -- `traces::edges::joint` meets its contract.
-use Rattle.std.proofs.Common.{max, ap, ◌∙◌, rules}
+use Rattle.std.proofs.Common.{max, ap, ◌∙◌}
 use Rattle.traces.proofs.EdgeLaws.{joint_is}
 use Rattle.traces.proofs.edges.joint.Goals as goal
 

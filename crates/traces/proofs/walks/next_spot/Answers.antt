@@ -1,5 +1,5 @@
 -- `traces::walks::next_spot` meets its contract.
-use Rattle.std.proofs.Common.{ℕ, ◌+◌, ◌-◌, sym, ap, ◌∙◌, rules, le-ltb, lt-ltb}
+use Rattle.std.proofs.Common.{ℕ, ◌+◌, ◌-◌, sym, ap, ◌∙◌, le-ltb, lt-ltb}
 use Rattle.model.proofs.Decisions.{cond_true, cond_false}
 use Rattle.traces.specs.declared.walks.Spot.{Spot}
 use Rattle.traces.specs.Walks.{next_spot}

@@ -1,6 +1,6 @@
 -- `traces::walks::spot_of` meets its contract.
-use Rattle.std.proofs.Common.{refl, arith, rules}
-use Rattle.traces.proofs.WalkLaws.{SpotSized, x_moves, y_moves, spot_sized}
+use Rattle.std.proofs.Common.{arith}
+use Rattle.traces.proofs.WalkLaws.{SpotSized, spot_sized}
 use Rattle.traces.proofs.walks.spot_of.Goals as goal
 use Rattle.traces.proofs.walks.spot_of.Goals.{After-moved-y}
 

@@ -1,5 +1,5 @@
 -- `traces::walks::walk` meets its contract, by whichever loop.
-use Rattle.std.proofs.Common.{◌≡◌, ℕ, ◌-◌, length, sym, refl, ap, ◌∙◌, subst, ap₂, arith, rules, eqb-true}
+use Rattle.std.proofs.Common.{◌≡◌, ℕ, ◌-◌, length, sym, refl, ◌∙◌, subst, ap₂, arith, eqb-true}
 use Rattle.model.proofs.Decisions.{both_true}
 use Rattle.strips.proofs.FieldBits.{Bytes}
 use Rattle.traces.specs.declared.walks.Spot.{Spot}
@@ -13,7 +13,6 @@ use Rattle.traces.proofs.walks.walk.Goals.{After-rotate_left-pattern}
 
 -- the entry, from the place where the pattern is known, and what is known there
 module _ (r : After-rotate_left-pattern) where
-
   small : Bytes r.args.stamps.now
   small j = (r.type_inv.stamps j).fits
 

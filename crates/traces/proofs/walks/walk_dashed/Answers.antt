@@ -1,18 +1,16 @@
 -- `traces::walks::walk_dashed` meets its contract. The loop's invariant: the pixels up to pixel i are stamped, the spot is that of pixel i, and the
 -- pattern is i bits on. It holds for whatever spot, pattern and buffer the walk set out with.
-use Rattle.std.proofs.Common.{ℕ, ◌+◌, ◌-◌, List, ap, ◌∙◌, arith, rules}
+use Rattle.std.proofs.Common.{ℕ, ◌+◌, ap, ◌∙◌, arith}
 use Rattle.strips.specs.Strips.{RotatedLeft}
 use Rattle.stamps.specs.Stamps.{stamped}
-use Rattle.traces.specs.declared.walks.Spot.{Spot}
 use Rattle.traces.specs.Walks.{pattern_digit, spot_no}
 use Rattle.traces.proofs.PatternLaws.{rotated_on, rotated_none, first_digit}
-use Rattle.traces.proofs.LoopLaws.{Walking, walking_first, walking_length, walking_next, walking_last, walking_rest, walking_in}
+use Rattle.traces.proofs.LoopLaws.{Walking, walking_first, walking_next, walking_last, walking_rest, walking_in}
 use Rattle.traces.proofs.walks.walk_dashed.Goals as goal
 use Rattle.traces.proofs.walks.walk_dashed.Goals.{At-loop-i}
 
 -- how far the walk has come at the loop's head
 module _ (l : At-loop-i) where
-
   here : let a = l.args in
       Walking a.stamps.now a.base a.from a.g (pattern_digit a.pattern) a.n a.buffer.now l.loop-i.buffer l.loop-i.spot l.loop-i.i
       × RotatedLeft a.pattern l.loop-i.i l.loop-i.rest

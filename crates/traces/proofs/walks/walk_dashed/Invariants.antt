@@ -1,12 +1,10 @@
 -- `traces::walks::walk_dashed` meets its contract. The loop's invariant: the pixels up to pixel i are stamped, the spot is that of pixel i, and the
 -- pattern is i bits on. It holds for whatever spot, pattern and buffer the walk set out with.
-use Rattle.std.proofs.Common.{ℕ, ◌+◌, ◌-◌, List, ap, ◌∙◌, arith, rules}
+use Rattle.std.proofs.Common.{ℕ, ◌-◌, List}
 use Rattle.strips.specs.Strips.{RotatedLeft}
-use Rattle.stamps.specs.Stamps.{stamped}
 use Rattle.traces.specs.declared.walks.Spot.{Spot}
-use Rattle.traces.specs.Walks.{pattern_digit, spot_no}
-use Rattle.traces.proofs.PatternLaws.{rotated_on, rotated_none, first_digit}
-use Rattle.traces.proofs.LoopLaws.{Walking, walking_first, walking_length, walking_next, walking_last, walking_rest, walking_in}
+use Rattle.traces.specs.Walks.{pattern_digit}
+use Rattle.traces.proofs.LoopLaws.{Walking}
 use Rattle.traces.proofs.walks.walk_dashed.Given as goal
 
 abbrev pub invariant-loop-i : goal.invariant-loop-i

@@ -1,15 +1,13 @@
 -- `traces::walks::walk_solid` meets its contract. The loop's invariant: the pixels up to pixel i are stamped, and the spot is that of pixel i. It holds
 -- for whatever spot and buffer the walk set out with.
-use Rattle.std.proofs.Common.{ℕ, ◌-◌, List, arith}
-use Rattle.traces.specs.declared.walks.Spot.{Spot}
+use Rattle.std.proofs.Common.{arith}
 use Rattle.traces.specs.Walks.{solid, spot_no}
-use Rattle.traces.proofs.LoopLaws.{Walking, walking_first, walking_length, walking_next, walking_last, walking_rest, walking_in}
+use Rattle.traces.proofs.LoopLaws.{Walking, walking_first, walking_next, walking_last, walking_rest, walking_in}
 use Rattle.traces.proofs.walks.walk_solid.Goals as goal
 use Rattle.traces.proofs.walks.walk_solid.Goals.{At-loop-i}
 
 -- how far the walk has come at the loop's head
 module _ (l : At-loop-i) where
-
   here : let a = l.args in
       Walking a.stamps.now a.base a.from a.g solid a.n a.buffer.now l.loop-i.buffer l.loop-i.spot l.loop-i.i
   here = let a = l.args in l.loop-i.invariant a.from a.buffer.now

@@ -1,9 +1,9 @@
 -- `traces::walks::walk_solid` meets its contract. The loop's invariant: the pixels up to pixel i are stamped, and the spot is that of pixel i. It holds
 -- for whatever spot and buffer the walk set out with.
-use Rattle.std.proofs.Common.{ℕ, ◌-◌, List, arith}
+use Rattle.std.proofs.Common.{ℕ, ◌-◌, List}
 use Rattle.traces.specs.declared.walks.Spot.{Spot}
-use Rattle.traces.specs.Walks.{solid, spot_no}
-use Rattle.traces.proofs.LoopLaws.{Walking, walking_first, walking_length, walking_next, walking_last, walking_rest, walking_in}
+use Rattle.traces.specs.Walks.{solid}
+use Rattle.traces.proofs.LoopLaws.{Walking}
 use Rattle.traces.proofs.walks.walk_solid.Given as goal
 
 abbrev pub invariant-loop-i : goal.invariant-loop-i
