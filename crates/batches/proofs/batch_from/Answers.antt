@@ -2,7 +2,6 @@
 use mathlib.Core.Path.{refl, ap, ◌∙◌}
 use Prim.Native.Nat.{ℕ, ◌-◌}
 use native.Mathlib.Omega.{arith}
-use borrow.Author.Rules.{rules}
 use Rattle.model.specs.Runs.{runs}
 use Rattle.batches.proofs.OnwardLaws.{onward_none}
 use Rattle.batches.proofs.batch_from.Goals as goal

@@ -1,6 +1,5 @@
 -- `batches::batch_on` meets its contract. The invariant: with what is left to run, what was done gives the whole run. Each way through the
 -- loop's body is one command more.
-use mathlib.Core.Path.{◌≡◌}
 use native.Mathlib.Omega.{arith}
 use borrow.Author.Tests.{not-false}
 use Rattle.batches.proofs.HeadLaws.{move_told}

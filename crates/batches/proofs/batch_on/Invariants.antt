@@ -1,17 +1,7 @@
 -- `batches::batch_on` meets its contract. The invariant: with what is left to run, what was done gives the whole run. Each way through the
 -- loop's body is one command more.
-use mathlib.Core.Path.{◌≡◌, sym, ◌∙◌}
-use Prim.Native.Nat.{ℕ, ◌+◌, ◌-◌, ◌^◌, ◌<◌}
-use native.Mathlib.Omega.{arith}
-use borrow.Author.Rules.{rules}
-use borrow.Author.Tests.{not-false}
-use lib.ListN.{length}
-use Rattle.model.specs.Coordinates.{coord, moved}
-use Rattle.strips.proofs.StretchLaws.{true_false}
-use Rattle.canvas.specs.Targets.{Ready}
-use Rattle.batches.specs.Heads.{Standing}
-use Rattle.batches.proofs.HeadLaws.{move_told}
-use Rattle.batches.proofs.BatchLaws.{Batching, batching_none, batching_ends, batching_move, batching_line, batching_circle}
+use Prim.Native.Nat.{◌-◌}
+use Rattle.batches.proofs.BatchLaws.{Batching}
 use Rattle.batches.proofs.batch_on.Given as goal
 
 abbrev pub invariant-loop-count : goal.invariant-loop-count

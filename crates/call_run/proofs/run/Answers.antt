@@ -1,8 +1,7 @@
 -- Run lends the screen and the pane's part of the stores on, and replaces the pane's record by the one that the run left.
 use Rattle.model.specs.Calls.{part, in_part}
-use Rattle.call_common.proofs.CallLaws.{exec_refused, exec_refused_own, store_room}
+use Rattle.call_common.proofs.CallLaws.{exec_refused, exec_refused_own}
 use Rattle.call_run.proofs.RanLaws.{granted_sound, exec_ran}
-use borrow.Author.Rules.{rules}
 use Rattle.call_run.proofs.run.Goals as goal
 
 pub returns-then-a-ne0 : goal.returns-then-a-ne0

@@ -1,8 +1,7 @@
 -- `processor::advance` meets its contract: a batch that is not empty, or the command tried on buffers that an empty one left as they were.
 use mathlib.Core.Path.{◌∙◌}
 use native.Mathlib.Omega.{arith}
-use borrow.Author.Rules.{rules}
-use Rattle.processor.proofs.AdvanceLaws.{advance_batch, advance_obey}
+use Rattle.processor.proofs.AdvanceLaws.{advance_obey}
 use Rattle.processor.proofs.advance.Goals as goal
 use Rattle.processor.proofs.advance.Goals.{After-slice_known-2-1}
 

@@ -1,7 +1,6 @@
 -- `processor::obey` meets its contract: a fault is recorded and nothing else, and a command without one is done.
 use mathlib.Core.Path.{sym, ◌∙◌}
 use native.Mathlib.Omega.{arith}
-use borrow.Author.Rules.{rules}
 use Rattle.processor.proofs.ObeyLaws.{obeyed_fault, obeyed_done}
 use Rattle.processor.proofs.obey.Goals as goal
 

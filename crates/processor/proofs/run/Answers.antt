@@ -10,14 +10,13 @@ use Rattle.model.specs.declared.Command.{Command}
 use Rattle.model.specs.declared.Decoded.{Decoded}
 use Rattle.model.specs.declared.Decoded.TheVariants.{Do}
 use Rattle.model.specs.Commands.{decode}
-use Rattle.model.specs.Numbers.{status_running}
 use Rattle.model.specs.Runs.{Finish, runs}
 use Rattle.model.specs.contracts.Decoded.{the_type}
 use Rattle.decoder.proofs.DecodeLaws.{decode_addressed}
 use Rattle.perform.specs.Performing.{finish}
 use Rattle.batches.specs.Batches.{onward}
 use Rattle.batches.proofs.OnwardLaws.{onward_none, onward_zero, onward_idle, onward_more}
-use Rattle.processor.proofs.RunningLaws.{Running, onward_stopped, run_ends}
+use Rattle.processor.proofs.RunningLaws.{onward_stopped, run_ends}
 use Rattle.processor.proofs.run.Goals as goal
 use Rattle.processor.proofs.run.Goals.{After-decode-d, After-slice_known-2-1, After-slice_known-in-loop-rest-2-1}
 

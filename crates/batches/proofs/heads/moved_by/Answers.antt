@@ -1,8 +1,4 @@
 -- `batches::heads::moved_by` meets its contract, opcode by opcode.
-use mathlib.Core.Path.{◌≡◌}
-use Prim.Native.Nat.{ℕ, ◌<◌}
-use native.Mathlib.Omega.{arith}
-use borrow.Author.Rules.{rules}
 use borrow.Author.Tests.{eq-eqb, ne_eqb}
 use Rattle.batches.specs.Heads.{moved_by}
 use Rattle.batches.proofs.heads.moved_by.Goals as goal

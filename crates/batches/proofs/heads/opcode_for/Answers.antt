@@ -1,13 +1,11 @@
 -- `batches::heads::opcode_for` meets its contract.
-use mathlib.Core.Path.{◌≡◌, refl, sym, ◌∙◌, subst}
+use mathlib.Core.Path.{◌≡◌, refl, sym, subst}
 use Prim.Native.Nat.{ℕ, ◌/◌}
 use native.Mathlib.Omega.{arith}
-use borrow.Author.Rules.{rules}
 use borrow.Author.Tests.{eqb-true, eqb-false}
 use lib.Dec.{eqb}
 use Rattle.model.specs.Commands.{opcode_of}
 use Rattle.model.proofs.Decisions.{split}
-use Rattle.batches.specs.Heads.{OpcodeFor}
 use Rattle.batches.proofs.heads.opcode_for.Goals as goal
 
 -- both opcodes of LINE name the same

@@ -1,0 +1,24 @@
+-- The bytes in use are lent to the call and come back; a line of any other kind prints ?.
+use mathlib.Core.Path.{◌∙◌}
+use borrow.Enum.Refused.{opened}
+use Rattle.model.specs.Calls.{exec, on}
+use Rattle.script_lines.specs.Lines.{call_said}
+use Rattle.script_session.specs.SessionState.{after_line}
+use Rattle.script_session.proofs.SessionLaws.{reaction_of_step, call_made_lem}
+use Rattle.script_calls.proofs.CallLaws.{after_line_other}
+use Rattle.script_calls.proofs.obey.Goals as goal
+
+-- no call
+pub returns-in_default : goal.returns-in_default
+returns-in_default c =
+    reaction_of_step c.malformed.ensures _ _ ∙ after_line_other c.args.said _ _ (opened c.in_default.in_default-own.keys2) c.requires
+
+-- a call
+pub returns : goal.returns
+unfolding after_line
+returns c =
+    let a = c.args in
+    let request = on c.in-Ask.pane (call_said c.in-Ask.call a.buffer.now) in
+    call_made_lem (λ _. a.session) c.in-Ask.letter (λ x. exec x request) a.session a.screen.now a.stores.now
+    c.count_within-n.ensures.least c.count_within-m.ensures.least c.replied.ensures c.make_call-answered.ensures
+    ∙ rw (c.in-Ask.is, c.requires)
