@@ -3,7 +3,7 @@
 // replies are is the contract of script::answer.
 #![tactic(auto)]
 
-ghost use Rattle.std.specs.Prelude.{◌+◌, ◌<◌, ◌≤◌, ◌^◌, length, IfOk, IfSome};
+ghost use Rattle.std.specs.Prelude.{◌≡◌, ◌+◌, ◌<◌, ◌≤◌, ◌^◌, length, take, IfOk, IfSome};
 
 use script_lines::Language;
 use std::env::FillError;
@@ -48,7 +48,7 @@ fn argument<R: Env>(rt: &R, k: usize, buffer: &mut [u8]) -> usize
 // Puts the file that argument k names at the start of a buffer, and answers how many bytes it has: nothing
 // where there is no such file.
 fn read_file<R: Env + Files>(rt: &R, k: usize, buffer: &mut [u8]) -> io::Result<Option<usize>>
-    ensures { IfOk result (λ file. IfSome file (λ n. n ≤ length buffer.new)) }
+    ensures { IfOk result (λ file. IfSome file (λ n. (n ≤ length buffer.new) × (n ≡ length (take n buffer.new)))) }
 {
     let mut name = [0u8; MOST_NAME];
     let length = argument(rt, k, &mut name);
