@@ -1,27 +1,27 @@
 -- What a batch's loop carries: with what is left to run it gives the whole run, whichever pane the batch is of.
 use mathlib.Core.Path.{◌≡◌, refl, sym, ap, ap₂, subst, ◌∙◌}
-use mathlib.Core.Bool.{true}
+use mathlib.Core.Bool.{false}
 use mathlib.Core.List.{List}
 use Prim.Native.Nat.{ℕ, suc, ◌+◌, ◌-◌, ◌*◌, ◌≤◌, ◌<◌}
 use native.Mathlib.Omega.{arith}
-use lib.IntN.{nat_abs}
 use lib.ListN.{length}
 use Rattle.model.specs.declared.Geometry.{Geometry}
 use Rattle.model.specs.declared.Row.{Row}
 use Rattle.model.specs.declared.Pane.{Pane}
+use Rattle.model.specs.declared.Pen.{Pen}
 use Rattle.model.specs.declared.Point.{Point}
-use Rattle.model.specs.Coordinates.{coord, moved, place}
 use Rattle.model.specs.Circles.{circle}
 use Rattle.model.specs.Dots.{Drawing}
-use Rattle.model.specs.Lines.{line, line_dots}
+use Rattle.model.specs.Lines.{line}
 use Rattle.model.specs.Runs.{most_pixels, runs, stepped}
 use Rattle.refusals.proofs.GoodLaws.{good_pointer, good_position}
 use Rattle.canvas.specs.declared.Target.{Target}
 use Rattle.canvas.specs.declared.Drawn.{Drawn}
-use Rattle.canvas.specs.Canvas.{Canvas, canvas, Drew, Painted}
-use Rattle.canvas.specs.Targets.{target_of}
+use Rattle.canvas.specs.Canvas.{Canvas, canvas, painted_all, Drew, Painted}
+use Rattle.canvas.specs.Targets.{Ready, target_of}
 use Rattle.canvas.proofs.LoopLaws.{drew_hits}
 use Rattle.perform.proofs.CountLaws.{line_few, circle_few}
+use Rattle.perform.proofs.ReadyLaws.{ready_of}
 use Rattle.traces.specs.declared.Trace.{Trace}
 use Rattle.traces.specs.Traces.{trace_dots}
 use Rattle.draw_lines.specs.declared.segments.Segment.{Segment}
@@ -29,12 +29,12 @@ use Rattle.draw_lines.specs.Segments.{dots_of, whole_line, TraceOf}
 use Rattle.draw_lines.proofs.SegmentLaws.{trace_painted}
 use Rattle.perform.specs.Performing.{Sound, finish}
 use Rattle.batches.specs.declared.heads.Head.{Head}
+use Rattle.batches.specs.declared.heads.Head.TheVariants as head
 use Rattle.batches.specs.declared.heads.Move.{Move}
-use Rattle.batches.specs.declared.Batch.{Batch}
 use Rattle.batches.specs.Heads.{Standing, moved_by}
-use Rattle.batches.specs.Batches.{BatchesOn, Drawable, onward, reached}
+use Rattle.batches.specs.Batches.{Drawable, onward, reached}
 use Rattle.batches.proofs.OnwardLaws.{onward_none, onward_step}
-use Rattle.batches.proofs.StepLaws.{move_stepped, line_stepped, circle_stepped}
+use Rattle.batches.proofs.StepLaws.{dots_by, head_stepped}
 
 -- a pane whose list has come further is as sound, and as drawable
 pub reached_sound : {g : Geometry} {r : Row} {p : Pane} {m n m' n' : ℕ} (pointer : ℕ) (position : Point) → Sound g r p m n → m' ≡ m → n' ≡ n
@@ -46,6 +46,14 @@ reached_drawable : {g : Geometry} {r : Row} {p : Pane} {m n m' n' : ℕ} (pointe
     → Drawable g r (reached p pointer position) m' n'
 reached_drawable pointer position d wide tall =
     record { sound = reached_sound pointer position d.sound wide tall; running = d.running; active = d.active; drawing = d.drawing }
+
+-- the target of a drawable pane is ready, and not in pick mode
+pub drawable_ready : {g : Geometry} {r : Row} {p : Pane} {m n : ℕ} {t : Target} → Drawable g r p m n → t ≡ target_of g r p → Ready t m n
+drawable_ready {m = m} {n = n} d aim = subst (λ (z : Target). Ready z m n) (sym aim) (ready_of _ _ _ _ _ d.sound d.active)
+
+pub drawable_drawing : {g : Geometry} {r : Row} {p : Pane} {m n : ℕ} {t : Target} → Drawable g r p m n → t ≡ target_of g r p → t.picking ≡ false
+unfolding target_of
+drawable_drawing d aim = ap (λ (z : Target). z.picking) aim ∙ d.drawing
 
 -- what holds at the loop's head
 pub record Batching (t : Target) (at : ℕ) (from : Point) (budget : ℕ) (screen₀ store₀ screen store : List ℕ) (pointer : ℕ) (position : Point)
@@ -60,18 +68,33 @@ pub record Batching (t : Target) (at : ℕ) (from : Point) (budget : ℕ) (scree
       → onward g r (budget - count) (finish count paint (reached p pointer position) screen store) ≡ runs g r budget p screen₀ store₀
 
 -- the dots of a whole line, from those of its trace
-line_painted : (t : Target) (from : Point) (a b : ℕ) (s : Segment) {trace : Trace} (c c' : Canvas) → s ≡ whole_line a b → TraceOf from s trace
-    → Painted t (trace_dots t.pen trace) c c' → Painted t (line_dots t.pen (place from) (coord a) (coord b)) c c'
-line_painted t from a b s c c' e o painted =
-    subst (λ (z : Segment). Painted t (dots_of t.pen from z) c c') e (trace_painted t from s c o painted)
+pub line_painted : (t : Target) (from : Point) (dx dy : ℕ) {s : Segment} {trace : Trace} (c c' : Canvas) → s ≡ whole_line dx dy → TraceOf from s trace
+    → Painted t (trace_dots t.pen trace) c c' → Painted t (dots_by t.pen from (head.Line dx dy)) c c'
+line_painted t from dx dy c c' e o painted =
+    subst (λ (z : Segment). Painted t (dots_of t.pen from z) c c') e (trace_painted t from _ c o painted)
 
--- a drawing shows at most as many pixels as it has
-few : (t : Target) (screen store screen' store' : List ℕ) (hits : ℕ) (w : Drawing) → length w.dots ≤ most_pixels
-    → Painted t w.dots (canvas screen store 0) (canvas screen' store' hits) → hits ≤ most_pixels
-few t screen store screen' store' hits w most painted =
-    let d : Drawn = record { position = w.position; trap = w.trap; hits = hits } in
+-- nothing is drawn by other commands than LINE and CIRCLE
+pub none_painted : (t : Target) (from : Point) (h : Head) (c : Canvas) → ((dx dy : ℕ) → h ≡ head.Line dx dy → ⊥) → ((radius : ℕ) → h ≡ head.Circle radius → ⊥)
+    → Painted t (dots_by t.pen from h) c c
+unfolding painted_all
+none_painted t from (head.Line dx dy) c line circle = absurd (line dx dy refl)
+none_painted t from (head.Circle radius) c line circle = absurd (circle radius refl)
+none_painted t from h c line circle = refl
+
+-- a command draws at most so many dots
+dots_few : (pen : Pen) (from : Point) (h : Head) → length (dots_by pen from h) ≤ most_pixels
+dots_few pen from (head.Line dx dy) = unfold line in line_few pen from dx dy
+dots_few pen from (head.Circle radius) = circle_few pen from radius
+dots_few pen from h = omega arith
+
+-- .. and shows no more pixels
+pub head_few : (t : Target) (from : Point) (h : Head) (screen store screen' store' : List ℕ) (hits : ℕ)
+    → Painted t (dots_by t.pen from h) (canvas screen store 0) (canvas screen' store' hits) → hits ≤ most_pixels
+head_few t from h screen store screen' store' hits painted =
+    let w : Drawing = record { dots = dots_by t.pen from h; position = from; trap = false } in
+    let d : Drawn = record { position = from; trap = false; hits = hits } in
     let drawn : Drew t w (canvas screen store 0) d screen' store' = record { dots = painted; position = refl; trap = refl } in
-    omega (arith, drew_hits drawn, most)
+    omega (arith, drew_hits drawn, dots_few t.pen from h)
 
 -- nothing done yet
 pub batching_none : (t : Target) (at : ℕ) (from : Point) (budget : ℕ) (screen store : List ℕ) → Batching t at from budget screen store screen store at from 0 0
@@ -89,12 +112,6 @@ batching_none t at from budget screen store = record {
   where
     whole : budget - 0 ≡ budget
     whole = omega arith
-
--- where the loop ends
-pub batching_ends : {t : Target} {at : ℕ} {from : Point} {budget : ℕ} {screen₀ store₀ screen store : List ℕ} {b : Batch}
-    → Batching t at from budget screen₀ store₀ screen store b.pointer b.position b.count b.paint
-    → BatchesOn t at from budget screen₀ store₀ b screen store
-batching_ends i g r p d aim e f = record { leaves = i.same g r p d aim e f; within = i.spent; few = i.few; none = i.none }
 
 module _ {t : Target} {at : ℕ} {from : Point} {budget : ℕ} {screen₀ store₀ screen store : List ℕ} {pointer : ℕ} {position : Point} {count paint : ℕ}
     (i : Batching t at from budget screen₀ store₀ screen store pointer position count paint) (left : count < budget) where
@@ -126,34 +143,14 @@ module _ {t : Target} {at : ℕ} {from : Point} {budget : ℕ} {screen₀ store�
       one_less : suc (budget - (count + 1)) ≡ budget - count
       one_less = omega arith
 
-  module _ (h : Head) (stands : Standing store pointer h) where
-    pub batching_move : (m : Move) → m ≡ moved_by pointer position h → m.done ≡ true
-        → Batching t at from budget screen₀ store₀ screen store m.pointer m.position (count + 1) paint
-    unfolding Stepped
-    batching_move m e done = batching_step 0 paint m.pointer m.position screen store refl refl (omega arith) (omega arith)
-        (λ g r p d aim. move_stepped g r (reached p pointer position) screen store h d.sound.placed.part stands m e done)
-
-    pub batching_line : (s : Segment) (trace : Trace) (hits : ℕ) (screen' store' : List ℕ) → length screen' ≡ length screen
-        → length store' ≡ length store → h.op ≡ 0x54 → s ≡ whole_line h.a h.b → TraceOf position s trace
-        → Painted t (trace_dots t.pen trace) (canvas screen store 0) (canvas screen' store' hits)
-        → Batching t at from budget screen₀ store₀ screen' store' (pointer + 6) (moved position (coord h.a) (coord h.b)) (count + 1) (paint + hits)
-    unfolding Stepped target_of line
-    batching_line s trace hits screen' store' wide tall op whole o walked =
-        let painted = line_painted t position h.a h.b s _ _ whole o walked in
-        batching_step hits (paint + hits) (pointer + 6) (moved position (coord h.a) (coord h.b)) screen' store' wide tall
-        (few t screen store screen' store' hits (line t.pen position (coord h.a) (coord h.b)) (line_few t.pen position h.a h.b) painted) refl
-        (λ g r p d aim. line_stepped g r (reached p pointer position) screen store h d.sound.placed.part stands hits screen' store' d op
-        (subst (λ (z : Target). Painted z (line_dots z.pen (place position) (coord h.a) (coord h.b)) (canvas screen store 0)
-        (canvas screen' store' hits)) aim painted))
-
-    pub batching_circle : (radius hits : ℕ) (screen' store' : List ℕ) → length screen' ≡ length screen → length store' ≡ length store → h.op ≡ 0x8E
-        → radius ≡ nat_abs (coord h.a) → Painted t (circle t.pen position radius).dots (canvas screen store 0) (canvas screen' store' hits)
-        → Batching t at from budget screen₀ store₀ screen' store' (pointer + 4) position (count + 1) (paint + hits)
-    unfolding Stepped target_of
-    batching_circle radius hits screen' store' wide tall op e ringed =
-        let painted = subst (λ (n : ℕ). Painted t (circle t.pen position n).dots (canvas screen store 0) (canvas screen' store' hits)) e ringed in
-        batching_step hits (paint + hits) (pointer + 4) position screen' store' wide tall
-        (few t screen store screen' store' hits (circle t.pen position (nat_abs (coord h.a))) (circle_few t.pen position h.a) painted) refl
-        (λ g r p d aim. circle_stepped g r (reached p pointer position) screen store h d.sound.placed.part stands hits screen' store' d op
-        (subst (λ (z : Target). Painted z (circle z.pen position (nat_abs (coord h.a))).dots (canvas screen store 0)
-        (canvas screen' store' hits)) aim painted))
+  -- .. by its head
+  pub batching_next : (h : Head) (m : Move) (hits paint' : ℕ) (screen' store' : List ℕ) → Standing store pointer h → m ≡ moved_by pointer position h
+      → length screen' ≡ length screen → length store' ≡ length store → paint' ≡ paint + hits
+      → Painted t (dots_by t.pen position h) (canvas screen store 0) (canvas screen' store' hits)
+      → Batching t at from budget screen₀ store₀ screen' store' m.pointer m.position (count + 1) paint'
+  unfolding Stepped target_of
+  batching_next h m hits paint' screen' store' stands e wide tall sum painted =
+      rw e (batching_step hits paint' (moved_by pointer position h).pointer (moved_by pointer position h).position screen' store' wide tall
+      (head_few t position h screen store screen' store' hits painted) sum
+      (λ g r p d aim. head_stepped g r (reached p pointer position) screen store d h hits screen' store' stands
+      (subst (λ (z : Target). Painted z (dots_by z.pen position h) (canvas screen store 0) (canvas screen' store' hits)) aim painted)))

@@ -1,40 +1,76 @@
--- The first words of a command, and what they tell of it.
-use Rattle.std.specs.Prelude.{◌≡◌, true, false, cond, List, ℕ, ◌+◌, ◌≤◌, eqb, length}
-use Rattle.model.specs.Words.{address}
+-- The commands that a batch has: what their first words tell, and what each moves.
+use Rattle.std.specs.Prelude.{◌≡◌, false, List, ℕ, ◌+◌, ◌*◌, ◌≤◌, length, IfSome}
+use Rattle.std.specs.declared.option.Option.{Option}
 use Rattle.model.specs.Coordinates.{coord, moved, negative}
-use Rattle.model.specs.Commands.{opcode_of, parameter, fetch, decode}
+use Rattle.model.specs.Commands.{known, opcode_of, command_of, decode}
+use Rattle.model.specs.declared.Opcode.{Opcode}
+use Rattle.model.specs.declared.Opcode.TheVariants as opcode
+use Rattle.model.specs.declared.Command.{Command}
+use Rattle.model.specs.declared.Command.TheVariants as command
+use Rattle.model.specs.declared.Decoded.TheVariants.{Do}
 use Rattle.model.specs.declared.Point.{Point}
 use Rattle.batches.specs.declared.heads.Head.{Head}
+use Rattle.batches.specs.declared.heads.Head.TheVariants as head
 use Rattle.batches.specs.declared.heads.Move.{Move}
 
--- an opcode as a head tells it: 0 tells nothing, and any other names the same command (54 and 55 hex are both LINE);
--- "A negative radius is fault 30" (02, A.1), so a circle's first word is none
-pub record OpcodeFor (op a r : ℕ) : Type 0 where
-  pub same : (r ≡ 0 → ⊥) → opcode_of r ≡ opcode_of op
-  pub radius : r ≡ 0x8E → negative (coord a) ≡ false
+-- the command that a head tells
+abbrev pub command_in : Head → Command
+command_in (head.Line dx dy) = command.Line dx dy
+command_in (head.Circle radius) = command.Circle radius
+command_in (head.AbsMov x y) = command.AbsMov x y
+command_in (head.RelMov dx dy) = command.RelMov dx dy
+command_in (head.Link address) = command.Link address
+command_in head.Nop = command.Nop
 
--- a command stands at an address of a store, with this opcode and these two words after it: the pointer is even, its
--- word inside and no end (01, "One command"), so what the decoder finds is what the opcode names
+-- .. its opcode
+abbrev pub opcode_in : Head → Opcode
+opcode_in (head.Line dx dy) = opcode.Line
+opcode_in (head.Circle radius) = opcode.Circle
+opcode_in (head.AbsMov x y) = opcode.AbsMov
+opcode_in (head.RelMov dx dy) = opcode.RelMov
+opcode_in (head.Link address) = opcode.Link
+opcode_in head.Nop = opcode.Nop
+
+-- .. and how many parameter words it has
+abbrev pub words_in : Head → ℕ
+words_in (head.Circle radius) = 1
+words_in head.Nop = 0
+words_in h = 2
+
+-- "A negative radius is fault 30" (02, A.1): a head's radius is not negative
+abbrev pub Faultless : Head → Type 0
+Faultless (head.Circle radius) = negative (coord radius) ≡ false
+Faultless h = Unit {0}
+
+-- an opcode and the two words after it, as a head tells them: the opcode's entry in the table (54 and 55 hex are both
+-- LINE), and the command that the words make. No head tells nothing
+pub record Naming (op a b : ℕ) (h : Head) : Type 0 where
+  pub entry : opcode_of op ≡ known (opcode_in h) (words_in h)
+  pub same : (w : ℕ → ℕ) → a ≡ w 0 → b ≡ w 1 → command_of (opcode_in h) w ≡ command_in h
+  pub radius : Faultless h
+
+abbrev pub OpcodeFor : ℕ → ℕ → ℕ → Option Head → Type 0
+OpcodeFor op a b told = IfSome told (Naming op a b)
+
+-- a head's command stands at an address of a store (01, "One command"), and three words can be read there
 pub record Standing (s : List ℕ) (at : ℕ) (h : Head) : Type 0 where
-  pub fetched : decode (length s) s at ≡ fetch (length s) s at (opcode_of h.op)
+  pub fetched : decode (length s) s at ≡ Do (command_in h) (at + 2 + 2 * words_in h)
   pub inside : at + 6 ≤ length s
-  pub first : h.a ≡ parameter s at 0
-  pub second : h.b ≡ parameter s at 1
-  pub radius : h.op ≡ 0x8E → negative (coord h.a) ≡ false
+  pub radius : Faultless h
 
--- what a head tells of an address: nothing where its opcode is 0
-abbrev pub HeadAt : List ℕ → ℕ → Head → Type 0
-HeadAt s at h = (h.op ≡ 0 → ⊥) → Standing s at h
+-- what a head tells of an address: no head tells nothing
+abbrev pub HeadAt : List ℕ → ℕ → Option Head → Type 0
+HeadAt s at told = IfSome told (Standing s at)
 
 abbrev pub moved_to : ℕ → Point → Move
-moved_to pointer position = record { done = true; pointer = pointer; position = position }
+moved_to pointer position = record { pointer = pointer; position = position }
 
--- what ABS_MOV, REL_MOV, LINK and NOP leave, by the head of a command; no other only moves. "LINK sets the pointer", of
--- the others "the pointer goes on"; "The position wraps at 16 bits". That model's effect is this is `move_stepped`
-unfoldable pub moved_by : ℕ → Point → Head → Move
-moved_by pointer from h =
-    cond (eqb h.op 0x4F) (moved_to (pointer + 6) (record { x = h.a; y = h.b }))
-    (cond (eqb h.op 0x52) (moved_to (pointer + 6) (moved from (coord h.a) (coord h.b)))
-    (cond (eqb h.op 0x02) (moved_to (address h.a h.b) from)
-    (cond (eqb h.op 0x03) (moved_to (pointer + 2) from)
-    (record { done = false; pointer = pointer; position = from }))))
+-- where a command leaves the pointer and the position, by its head. "LINK sets the pointer", of the others "the pointer
+-- goes on"; "The position wraps at 16 bits". That model's effect is this is `head_stepped`
+abbrev pub moved_by : ℕ → Point → Head → Move
+moved_by pointer from (head.Line dx dy) = moved_to (pointer + 6) (moved from (coord dx) (coord dy))
+moved_by pointer from (head.Circle radius) = moved_to (pointer + 4) from
+moved_by pointer from (head.AbsMov x y) = moved_to (pointer + 6) (record { x = x; y = y })
+moved_by pointer from (head.RelMov dx dy) = moved_to (pointer + 6) (moved from (coord dx) (coord dy))
+moved_by pointer from (head.Link address) = moved_to address from
+moved_by pointer from head.Nop = moved_to (pointer + 2) from

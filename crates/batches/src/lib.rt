@@ -2,7 +2,7 @@
 // drawing is looked up once a batch, and from command to command only the pointer and the position change.
 #![tactic(auto)]
 
-pub mod heads; // heads.rt: the first words of a command, and the commands that only move
+pub mod heads; // heads.rt: the commands that a batch has, by their first words
 
 ghost use Rattle.std.specs.Prelude.{◌≡◌, true, false, ◌≤◌, length};
 ghost use Rattle.model.specs.Faults.{no_bitmap};
@@ -16,7 +16,7 @@ use bitmaps::no_bitmap;
 use canvas::Target;
 use draw_circles::draw_circle;
 use draw_lines::{is_span, trace_of, whole_line};
-use heads::{CIRCLE, LINE, head_at, moved_by};
+use heads::{Head, head_at, moved_by};
 use model::{Command, Frame, Pane, Point};
 use traces::draw_trace;
 
@@ -47,37 +47,36 @@ fn batch_on(
 {
     let mut pointer = at;
     let mut position = from;
-    let mut count: u32 = 0;
     let mut paint: u64 = 0;
-    while count < budget {
-        let h = head_at(store, pointer);
-        if h.op == LINE {
-            let line = trace_of(position, whole_line(h.a, h.b));
-            paint += draw_trace(screen, store, stamps, t, line, 0) as u64;
-            position = coordinates::move_by(position, h.a, h.b);
-            pointer += 6;
-            count += 1;
-            continue;
-        }
-        if h.op == CIRCLE {
-            let r = coordinates::magnitude(h.a);
-            paint += draw_circle(screen, store, stamps, t, position, r) as u64;
-            pointer += 4;
-            count += 1;
-            continue;
-        }
-        let m = moved_by(pointer, position, h);
-        if !m.done {
-            break;
-        }
-        pointer = m.pointer;
-        position = m.position;
-        count += 1;
+    for count in 0..budget {
+        let Some(head) = head_at(store, pointer) else {
+            return Batch {
+                pointer,
+                position,
+                count,
+                paint,
+            };
+        };
+        let hits = match head {
+            Head::Line { dx, dy } => {
+                let line = trace_of(position, whole_line(dx, dy));
+                draw_trace(screen, store, stamps, t, line, 0)
+            }
+            Head::Circle { radius } => {
+                let r = coordinates::magnitude(radius);
+                draw_circle(screen, store, stamps, t, position, r)
+            }
+            _ => 0,
+        };
+        let next = moved_by(pointer, position, head);
+        pointer = next.pointer;
+        position = next.position;
+        paint += hits as u64;
     }
     Batch {
         pointer,
         position,
-        count,
+        count: budget,
         paint,
     }
 }
@@ -118,6 +117,7 @@ fn begins_batch(p: Pane, c: Command) -> bool
 }
 
 // A batch from the pointer on, where the command there begins one.
+#[tactic(auto, using(crate::proofs::OnwardLaws::onward_none))]
 pub fn batch_from(
     screen: &mut [u8],
     store: &mut [u8],

@@ -2,7 +2,7 @@
 // (bench/lists).
 #![tactic(auto)]
 
-use model::{Console, Geometry, Reply, Row, Verdict};
+use model::{Console, Geometry, Reply, Row};
 
 // A console of one pane over the whole screen, its store the first `len` bytes of the stores.
 fn one_pane(width: u32, height: u32, depth: u32, len: u32) -> Console {
@@ -47,11 +47,10 @@ pub extern "C" fn run_list(
     let second = console::start(screen, stores, c, 0, 0);
     let d = second.console;
     let third = console::run(screen, stores, d, 0, budget);
-    let reply = third.reply;
-    let Reply::Ran(ran) = reply else {
-        return 0;
-    };
-    ran.commands
+    match third.reply {
+        Ok(Reply::Ran(ran)) => ran.commands,
+        _ => 0,
+    }
 }
 
 // Sets up a console of one pane and judges its list at address 0: the commands walked, or 0 where a call is
@@ -67,12 +66,8 @@ pub extern "C" fn judge_list(
 ) -> u32 {
     let first = console::set_up(screen, stores, one_pane(width, height, depth, len));
     let second = console::judge(screen, stores, first.console, 0, 0);
-    let reply = second.reply;
-    let Reply::Judged(verdict) = reply else {
-        return 0;
-    };
-    let Verdict::Clean(walked) = verdict else {
-        return 0;
-    };
-    walked
+    match second.reply {
+        Ok(Reply::Judged(Ok(walked))) => walked,
+        _ => 0,
+    }
 }

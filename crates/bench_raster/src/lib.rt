@@ -22,7 +22,7 @@ pub extern "C" fn bench_raster_paint(
     let s = Surface {
         base: 0,
         words: 64,
-        bits: bits,
+        bits,
         left: 0,
         top: 0,
         width: 128,
@@ -31,14 +31,13 @@ pub extern "C" fn bench_raster_paint(
     let pen = Pen {
         fore: colour,
         back: 0,
-        op: op,
-        mask: mask,
+        op,
+        mask,
         pattern: 0,
         transparent: false,
     };
     let truth = raster::truth_of(op);
-    let mut i: usize = 0;
-    while i < turns {
+    for i in 0..turns {
         raster::blend(
             buffer,
             s,
@@ -48,6 +47,5 @@ pub extern "C" fn bench_raster_paint(
             i / 128 % 64,
             Source::Colour(colour),
         );
-        i += 1;
     }
 }

@@ -31,11 +31,7 @@ pub fn surface_of(f: Frame, b: Bitmap) -> Surface
             width: 0,
             height: 0,
         },
-        Bitmap::Pane {
-            xmax: _,
-            ymax: _,
-            bits: _,
-        } => Surface {
+        Bitmap::Pane { .. } => Surface {
             base: 0,
             words: row_words(g.width as usize, g.depth as usize),
             bits: g.depth as usize,
@@ -65,20 +61,7 @@ pub fn surface_of(f: Frame, b: Bitmap) -> Surface
 pub fn is_pane(b: Bitmap) -> bool
     ensures { result ≡ is_pane b }
 {
-    match b {
-        Bitmap::Absent => false,
-        Bitmap::Pane {
-            xmax: _,
-            ymax: _,
-            bits: _,
-        } => true,
-        Bitmap::Store {
-            address: _,
-            xmax: _,
-            ymax: _,
-            bits: _,
-        } => false,
-    }
+    matches!(b, Bitmap::Pane { .. })
 }
 
 // The area of a bitmap.
@@ -118,23 +101,14 @@ pub fn landing_area(f: Frame, b: Bitmap) -> Area
 {
     match b {
         Bitmap::Absent => area_of(f, b),
-        Bitmap::Pane {
-            xmax: _,
-            ymax: _,
-            bits: _,
-        } => {
+        Bitmap::Pane { .. } => {
             let surface = screen_from(f);
             Area {
                 onscreen: true,
                 surface,
             }
         }
-        Bitmap::Store {
-            address: _,
-            xmax: _,
-            ymax: _,
-            bits: _,
-        } => area_of(f, b),
+        Bitmap::Store { .. } => area_of(f, b),
     }
 }
 

@@ -21,7 +21,7 @@ pub const PANE_ADDRESS: u32 = 0x200000;
 pub fn is_depth(bits: u32) -> bool
     ensures { result ≡ is_depth bits }
 {
-    (bits == 1) | ((bits == 2) | ((bits == 4) | (bits == 8)))
+    matches!(bits, 1 | 2 | 4 | 8)
 }
 
 // The words of a row of so many pixels.
@@ -59,20 +59,7 @@ pub fn bitmap_of(address: u32, xmax: u16, ymax: u16, bits: u16) -> Bitmap
 pub fn no_bitmap(b: Bitmap) -> bool
     ensures { result ≡ no_bitmap b }
 {
-    match b {
-        Bitmap::Absent => true,
-        Bitmap::Pane {
-            xmax: _,
-            ymax: _,
-            bits: _,
-        } => false,
-        Bitmap::Store {
-            address: _,
-            xmax: _,
-            ymax: _,
-            bits: _,
-        } => false,
-    }
+    matches!(b, Bitmap::Absent)
 }
 
 // Whether bytes from an address on pass the end of a store of so many bytes.
@@ -161,11 +148,7 @@ pub fn touches(b: Bitmap, at: usize, size: usize) -> bool
 {
     match b {
         Bitmap::Absent => false,
-        Bitmap::Pane {
-            xmax: _,
-            ymax: _,
-            bits: _,
-        } => false,
+        Bitmap::Pane { .. } => false,
         Bitmap::Store {
             address,
             xmax,

@@ -41,16 +41,7 @@ pub fn scissor_of(r: Row, b: Bitmap, c: Clip) -> Scissor
 {
     match b {
         Bitmap::Absent => no_scissor(),
-        Bitmap::Pane {
-            xmax: _,
-            ymax: _,
-            bits: _,
-        } => pane_scissor(r, c),
-        Bitmap::Store {
-            address: _,
-            xmax: _,
-            ymax: _,
-            bits: _,
-        } => no_scissor(),
+        Bitmap::Pane { .. } => pane_scissor(r, c),
+        Bitmap::Store { .. } => no_scissor(),
     }
 }

@@ -1,9 +1,9 @@
 -- What a call is lent and what it leaves, as the states and answers that `exec` and `set_up` speak of.
-use Rattle.std.specs.Prelude.{ℕ, List, set}
+use Rattle.std.specs.Prelude.{ℕ, List, set, Ok, Err}
 use Rattle.model.specs.declared.Console.{Console}
 use Rattle.model.specs.declared.Pane.{Pane}
 use Rattle.model.specs.declared.Reply.{Reply}
-use Rattle.model.specs.declared.Reply.TheVariants as reply
+use Rattle.model.specs.declared.Refusal.{Refusal}
 use Rattle.model.specs.Replies.{response}
 use Rattle.model.specs.Calls.{State, Answer}
 use Rattle.call_common.specs.declared.Answered.{Answered}
@@ -18,11 +18,11 @@ answer a screen stores = record { reply = response a.reply; state = state a.cons
 
 -- the record as it came, with a reply
 abbrev pub unchanged : Console → Reply → Answered
-unchanged console a = record { console = console; reply = a }
+unchanged console a = record { console = console; reply = Ok a }
 
 -- a refused call
-abbrev pub turned_away : Console → ℕ → Answered
-turned_away console n = unchanged console (reply.Refused n)
+abbrev pub turned_away : Console → Refusal → Answered
+turned_away console r = record { console = console; reply = Err r }
 
 -- the record with pane k's replaced
 abbrev pub with_record : Console → ℕ → Pane → Console
@@ -30,4 +30,4 @@ with_record c k p = record { geometry = c.geometry; count = c.count; rows = c.ro
 
 -- the same, with a reply
 abbrev pub replaced : Console → ℕ → Pane → Reply → Answered
-replaced c k p a = record { console = with_record c k p; reply = a }
+replaced c k p a = record { console = with_record c k p; reply = Ok a }

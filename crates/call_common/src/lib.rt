@@ -3,75 +3,81 @@
 #![tactic(auto)]
 
 ghost use Rattle.std.specs.Prelude.{◌≡◌, ◌<◌};
+ghost use Rattle.model.specs.Numbers.{refused_by};
 ghost use Rattle.model.specs.Record.{fresh};
 ghost use Rattle.model.specs.Calls.{start_refusal};
 ghost use Rattle.call_common.specs.Admissions.{Admits};
-ghost use Rattle.call_common.specs.Answers.{turned_away, replaced};
+ghost use Rattle.call_common.specs.Answers.{turned_away, unchanged, replaced};
 
 use model::{
-    Bitmap, Clip, Console, Flags, Font, Pane, Pen, Point, Progress, Reply, Returns, Row,
+    Bitmap, Clip, Console, Flags, Font, Pane, Pen, Point, Progress, Refusal, Reply, Returns, Row,
     STATUS_PARKED, Scissor, Text,
 };
-use refusals::call::call_refusal;
-use words::{either, number_if};
-
-// An address, or bytes from it on, past the end of the store.
-pub const REFUSE_END: u8 = 2;
-
-// An odd address.
-const REFUSE_ODD: u8 = 3;
+use refusals::call::check_call;
 
 // The operation "replace": a new bit is the source bit.
 const REPLACE: u8 = 5;
 
-// What a call on a pane begins with: the number of the first refusal common to all calls, or 0, and where it
-// is 0 the pane's row and record.
+// What a call on a pane begins with: the pane's row and record.
 #[derive(Clone, Copy)]
 pub struct Admission {
-    pub refusal: u8,
     pub row: Row,
     pub pane: Pane,
 }
 
-// Admits a call on the pane with a number, or refuses it, by the record and the lengths of the two buffers.
-pub fn admit(screen: usize, stores: usize, console: Console, number: u32) -> Admission
+// Admits a call on the pane with a number, or else gives the first refusal common to all calls, by the record and the
+// lengths of the two buffers.
+pub fn admit(
+    screen: usize,
+    stores: usize,
+    console: Console,
+    number: u32,
+) -> Result<Admission, Refusal>
     ensures { Admits console screen stores number result }
 {
-    let refusal = call_refusal(screen, stores, console, number);
-    // row and record of a refused call are pane 0's, and nothing is said of them
-    let k = either(refusal == 0, number as usize, 0);
+    check_call(screen, stores, console, number)?;
+    let k = number as usize;
     let row = console.rows[k];
     let pane = console.panes[k];
-    Admission { refusal, row, pane }
+    Ok(Admission { row, pane })
 }
 
-// The refusal of an address where a list is to begin: 3 if it is odd, 2 if it is not below the store's length,
-// or 0.
-pub fn start_refusal(row: Row, address: u32) -> u8
-    ensures { result ≡ start_refusal row address }
+// Whether a list may begin at an address: refused 3 if it is odd, 2 if it is not below the store's length.
+pub fn check_start(row: Row, address: u32) -> Result<(), Refusal>
+    ensures { refused_by result ≡ start_refusal row address }
 {
-    number_if(
-        address % 2 == 1,
-        REFUSE_ODD,
-        number_if(row.len <= address, REFUSE_END, 0),
-    )
+    if address % 2 == 1 {
+        return Err(Refusal::Odd);
+    }
+    if row.len <= address {
+        return Err(Refusal::End);
+    }
+    Ok(())
 }
 
-// What every call answers: the console record after it, and its reply.
+// What every call answers: the console record after it, and its reply or why it was refused.
 #[derive(Clone, Copy)]
 pub struct Answered {
     pub console: Console,
-    pub reply: Reply,
+    pub reply: Result<Reply, Refusal>,
 }
 
-// A refused call: the record as it came, and the refusal's number.
-pub fn refused(console: Console, number: u8) -> Answered
-    ensures { result ≡ turned_away console number }
+// A refused call: the record as it came.
+pub fn refused(console: Console, refusal: Refusal) -> Answered
+    ensures { result ≡ turned_away console refusal }
 {
     Answered {
         console,
-        reply: Reply::Refused(number),
+        reply: Err(refusal),
     }
+}
+
+// An accepted call that keeps the record.
+pub fn replied(console: Console, reply: Reply) -> Answered
+    ensures { result ≡ unchanged console reply }
+{
+    let reply = Ok(reply);
+    Answered { console, reply }
 }
 
 // The record with that of the pane with a number replaced, all else kept, and a reply.
@@ -84,7 +90,7 @@ pub fn with_record(console: Console, number: u32, pane: Pane, reply: Reply) -> A
     next.panes[k] = pane;
     Answered {
         console: next,
-        reply,
+        reply: Ok(reply),
     }
 }
 

@@ -7,7 +7,7 @@ ghost use Rattle.model.specs.Calls.{exec, on};
 ghost use Rattle.model.specs.Calls as calls;
 ghost use Rattle.call_common.specs.Answers.{state, answer};
 
-use call_common::{Answered, admit, refused, start_refusal};
+use call_common::{Answered, admit, check_start, refused, replied};
 use model::{Console, Frame, Reply};
 
 // Judges the list at an address of the store of the pane with a number, as from a cleared pane; changes nothing;
@@ -17,21 +17,17 @@ pub fn judge(screen: &[u8], stores: &[u8], console: Console, number: u32, addres
     ensures { answer result screen.now stores.now
         ≡ exec (state console screen.now stores.now) (on number (calls.judge address)) }
 {
-    let admission = admit(screen.len(), stores.len(), console, number);
-    if admission.refusal != 0 {
-        return refused(console, admission.refusal);
-    }
-    let own = start_refusal(admission.row, address);
-    if own != 0 {
-        return refused(console, own);
+    let admission = match admit(screen.len(), stores.len(), console, number) {
+        Ok(admission) => admission,
+        Err(refusal) => return refused(console, refusal),
+    };
+    if let Err(refusal) = check_start(admission.row, address) {
+        return refused(console, refusal);
     }
     let geometry = console.geometry;
     let row = admission.row;
     let start = row.start as usize;
     let end = start + row.len as usize;
     let verdict = judge::judge(&stores[start..end], Frame { geometry, row }, address);
-    Answered {
-        console,
-        reply: Reply::Judged(verdict),
-    }
+    replied(console, Reply::Judged(verdict))
 }

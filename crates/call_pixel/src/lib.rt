@@ -2,24 +2,25 @@
 #![tactic(auto)]
 
 ghost use Rattle.std.specs.Prelude.{◌≡◌};
+ghost use Rattle.model.specs.Numbers.{refused_by};
 ghost use Rattle.model.specs.Calls.{exec, on, own_refusal};
 ghost use Rattle.model.specs.Calls as calls;
 ghost use Rattle.model.specs.declared.Pane.{Pane};
 ghost use Rattle.call_common.specs.Answers.{state, answer};
 
 use bitmaps::surface_of;
-use call_common::{Answered, admit, refused};
-use model::{Bitmap, Console, Frame, Reply, Row};
-use words::number_if;
+use call_common::{Answered, admit, refused, replied};
+use model::{Bitmap, Console, Frame, Refusal, Reply, Row};
 
-// A pixel outside the pane.
-const REFUSE_PIXEL: u8 = 5;
-
-// Pixel's own refusal: 5 outside the pane, or 0.
-fn pixel_refusal(row: Row, x: u32, y: u32) -> u8
-    ensures { (p : Pane) → result ≡ own_refusal row p (calls.pixel x y) }
+// Pixel's own check: refused 5 outside the pane.
+#[tactic(auto, unfolding(model::specs::Calls::own_refusal))]
+fn check_pixel(row: Row, x: u32, y: u32) -> Result<(), Refusal>
+    ensures { (p : Pane) → refused_by result ≡ own_refusal row p (calls.pixel x y) }
 {
-    number_if((x < row.width) & (y < row.height), 0, REFUSE_PIXEL)
+    if (x < row.width) & (y < row.height) {
+        return Ok(());
+    }
+    Err(Refusal::Pixel)
 }
 
 // Answers the value of pixel (x,y) from the corner of the pane with a number; changes nothing; refused 5
@@ -35,13 +36,12 @@ pub fn pixel(
     ensures { answer result screen.now stores.now
         ≡ exec (state console screen.now stores.now) (on number (calls.pixel x y)) }
 {
-    let admission = admit(screen.len(), stores.len(), console, number);
-    if admission.refusal != 0 {
-        return refused(console, admission.refusal);
-    }
-    let own = pixel_refusal(admission.row, x, y);
-    if own != 0 {
-        return refused(console, own);
+    let admission = match admit(screen.len(), stores.len(), console, number) {
+        Ok(admission) => admission,
+        Err(refusal) => return refused(console, refusal),
+    };
+    if let Err(refusal) = check_pixel(admission.row, x, y) {
+        return refused(console, refusal);
     }
     let geometry = console.geometry;
     let row = admission.row;
@@ -53,8 +53,5 @@ pub fn pixel(
     };
     let surface = surface_of(Frame { geometry, row }, pane);
     let value = raster::pixel_at(screen, surface, x as usize, y as usize);
-    Answered {
-        console,
-        reply: Reply::Value(value),
-    }
+    replied(console, Reply::Value(value))
 }

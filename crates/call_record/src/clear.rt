@@ -12,9 +12,8 @@ pub fn clear(screen: &[u8], stores: &[u8], console: Console, number: u32) -> Ans
     ensures { answer result screen.now stores.now
         ≡ exec (state console screen.now stores.now) (on number calls.clear) }
 {
-    let admission = admit(screen.len(), stores.len(), console, number);
-    if admission.refusal != 0 {
-        return refused(console, admission.refusal);
+    if let Err(refusal) = admit(screen.len(), stores.len(), console, number) {
+        return refused(console, refusal);
     }
     with_record(console, number, fresh(), Reply::Done)
 }

@@ -4,7 +4,7 @@ ghost use Rattle.model.specs.Calls.{exec, on, started};
 ghost use Rattle.model.specs.Calls as calls;
 ghost use Rattle.call_common.specs.Answers.{state, answer};
 
-use call_common::{Answered, admit, refused, start_refusal, with_record};
+use call_common::{Answered, admit, check_start, refused, with_record};
 use model::{Console, Pane, Progress, Reply, Returns, STATUS_RUNNING};
 
 // The pane record with the pointer at the address, status 1, fault 0, no return addresses, the rest kept.
@@ -31,13 +31,12 @@ pub fn start(screen: &[u8], stores: &[u8], console: Console, number: u32, addres
     ensures { answer result screen.now stores.now
         ≡ exec (state console screen.now stores.now) (on number (calls.start address)) }
 {
-    let admission = admit(screen.len(), stores.len(), console, number);
-    if admission.refusal != 0 {
-        return refused(console, admission.refusal);
-    }
-    let own = start_refusal(admission.row, address);
-    if own != 0 {
-        return refused(console, own);
+    let admission = match admit(screen.len(), stores.len(), console, number) {
+        Ok(admission) => admission,
+        Err(refusal) => return refused(console, refusal),
+    };
+    if let Err(refusal) = check_start(admission.row, address) {
+        return refused(console, refusal);
     }
     let pane = started(admission.pane, address);
     with_record(console, number, pane, Reply::Done)

@@ -1,5 +1,6 @@
 // Switch: a pane's trap switch set (02, A.7).
 ghost use Rattle.std.specs.Prelude.{◌≡◌};
+ghost use Rattle.model.specs.Numbers.{refused_by};
 ghost use Rattle.model.specs.Calls.{exec, on, own_refusal, switched};
 ghost use Rattle.model.specs.Calls as calls;
 ghost use Rattle.model.specs.declared.Row.{Row};
@@ -7,19 +8,17 @@ ghost use Rattle.model.specs.declared.Pane as declared;
 ghost use Rattle.call_common.specs.Answers.{state, answer};
 
 use call_common::{Answered, admit, refused, with_record};
-use model::{Console, Pane, Reply, STATUS_RUNNING, STATUS_TRAPPED};
+use model::{Console, Pane, Refusal, Reply, STATUS_RUNNING, STATUS_TRAPPED};
 
-// A switch value other than 0 or 1.
-const REFUSE_SWITCH: u8 = 33;
-
-// Switch's own refusal: 33 if the value is neither 0 nor 1, or 0.
-fn switch_refusal(value: u32) -> u8
-    ensures { (row : Row) (pane : declared.Pane) → result ≡ own_refusal row pane (calls.switch value) }
+// Switch's own check: refused 33 if the value is neither 0 nor 1.
+#[tactic(auto, unfolding(model::specs::Calls::own_refusal))]
+fn check_switch(value: u32) -> Result<(), Refusal>
+    ensures { (row : Row) (pane : declared.Pane) → refused_by result ≡ own_refusal row pane (calls.switch value) }
 {
     if value > 1 {
-        return REFUSE_SWITCH;
+        return Err(Refusal::Switch);
     }
-    0
+    Ok(())
 }
 
 // The pane record with the trap switch off (0) or on (1); turned off at status 4 it has status 1, and the trap flag
@@ -41,13 +40,12 @@ pub fn switch(screen: &[u8], stores: &[u8], console: Console, number: u32, value
     ensures { answer result screen.now stores.now
         ≡ exec (state console screen.now stores.now) (on number (calls.switch value)) }
 {
-    let admission = admit(screen.len(), stores.len(), console, number);
-    if admission.refusal != 0 {
-        return refused(console, admission.refusal);
-    }
-    let own = switch_refusal(value);
-    if own != 0 {
-        return refused(console, own);
+    let admission = match admit(screen.len(), stores.len(), console, number) {
+        Ok(admission) => admission,
+        Err(refusal) => return refused(console, refusal),
+    };
+    if let Err(refusal) = check_switch(value) {
+        return refused(console, refusal);
     }
     let pane = switched(admission.pane, value);
     with_record(console, number, pane, Reply::Done)

@@ -15,7 +15,7 @@ use Rattle.processor.specs.Obeying.{finish_of}
 use Rattle.refusals.proofs.GoodLaws.{good_released}
 use Rattle.call_common.specs.declared.Admission.{Admission}
 use Rattle.call_common.specs.declared.Answered.{Answered}
-use Rattle.call_common.specs.Admissions.{Granted, Admits}
+use Rattle.call_common.specs.Admissions.{Granted}
 use Rattle.call_common.specs.Answers.{answer, replaced}
 use Rattle.call_common.proofs.CallLaws.{store_part, with_store, length_store_part, exec_accepted}
 use Rattle.call_run.specs.Running.{ran_reply}
@@ -27,13 +27,13 @@ granted_sound stores g =
     rw (length_store_part stores g, g.row, g.pane) (record { placed = g.admitted.placed; good = good_released g.admitted.good })
 
 -- what the processor left is what the call leaves
-pub exec_ran : (s : State) (number budget : ℕ) {a : Admission} (h : Admits s.console (length s.screen) (length s.stores) number a)
-    (z : a.refusal ≡ 0) {n : ℕ} → ((row : Row) (budget : ℕ) → n ≡ own_refusal row a.pane (run budget)) → n ≡ 0
+pub exec_ran : (s : State) (number budget : ℕ) {a : Admission} → Granted s.console (length s.screen) (length s.stores) number a
+    → ((row : Row) (budget : ℕ) → 0 ≡ own_refusal row a.pane (run budget))
     → (e : Finished) (screen store : List ℕ)
     → finish_of e screen store ≡ runs s.console.geometry a.row budget (released a.pane) s.screen (store_part s.stores a.row)
     → {b : Answered} → b ≡ replaced s.console number e.pane (ran_reply e)
     → answer b screen (with_store s.stores a.row store) ≡ exec s (on number (run budget))
 unfolding on_pane
-exec_ran s number budget {a} h z own y e screen store f {b} k =
-    exec_accepted s number (run budget) h z (own a.row budget) y (ap ran (sym f)) b
+exec_ran s number budget {a} g own e screen store f {b} k =
+    exec_accepted s number (run budget) g (own a.row budget) (ap ran (sym f)) b
     (ap (λ (b : Answered). b.console) k) (ap (λ (b : Answered). response b.reply) k) refl refl

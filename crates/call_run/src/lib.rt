@@ -2,6 +2,7 @@
 #![tactic(auto)]
 
 ghost use Rattle.std.specs.Prelude.{◌≡◌, ℕ};
+ghost use Rattle.model.specs.Numbers.{refused_by};
 ghost use Rattle.model.specs.Calls.{exec, on, own_refusal, released};
 ghost use Rattle.model.specs.Calls as calls;
 ghost use Rattle.model.specs.declared.Row.{Row};
@@ -9,21 +10,19 @@ ghost use Rattle.call_common.specs.Answers.{state, answer};
 ghost use Rattle.call_run.specs.Running.{ran_reply};
 
 use call_common::{Answered, admit, refused, with_record};
-use model::{Console, Frame, Pane, Ran, Reply, STATUS_RUNNING, STATUS_TRAPPED};
+use model::{Console, Frame, Pane, Ran, Refusal, Reply, STATUS_RUNNING, STATUS_TRAPPED};
 use processor::Finished;
 
-// A status that is neither 1 nor 4.
-const REFUSE_STATUS: u8 = 4;
-
-// Run's own refusal: 4 if the pane's status is neither 1 nor 4, or 0.
-fn run_refusal(pane: Pane) -> u8
-    ensures { (row : Row) (budget : ℕ) → result ≡ own_refusal row pane (calls.run budget) }
+// Run's own check: refused 4 if the pane's status is neither 1 nor 4.
+#[tactic(auto, unfolding(model::specs::Calls::own_refusal))]
+fn check_run(pane: Pane) -> Result<(), Refusal>
+    ensures { (row : Row) (budget : ℕ) → refused_by result ≡ own_refusal row pane (calls.run budget) }
 {
     let status = pane.progress.status;
     if (status == STATUS_RUNNING) | (status == STATUS_TRAPPED) {
-        return 0;
+        return Ok(());
     }
-    REFUSE_STATUS
+    Err(Refusal::Status)
 }
 
 // The record that a run begins with: at status 4 the trap flag is cleared and the status is 1 (02, A.7).
@@ -64,16 +63,15 @@ pub fn run(
     ensures { answer result screen.new stores.new
         ≡ exec (state console screen.old stores.old) (on number (calls.run budget)) }
 {
-    let a = admit(screen.len(), stores.len(), console, number);
-    if a.refusal != 0 {
-        return refused(console, a.refusal);
+    let admission = match admit(screen.len(), stores.len(), console, number) {
+        Ok(admission) => admission,
+        Err(refusal) => return refused(console, refusal),
+    };
+    let pane = admission.pane;
+    if let Err(refusal) = check_run(pane) {
+        return refused(console, refusal);
     }
-    let pane = a.pane;
-    let own = run_refusal(pane);
-    if own != 0 {
-        return refused(console, own);
-    }
-    let row = a.row;
+    let row = admission.row;
     let geometry = console.geometry;
     let f = Frame { geometry, row };
     let start = row.start as usize;

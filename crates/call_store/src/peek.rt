@@ -1,19 +1,23 @@
 // Peek: one byte of a pane's store.
 ghost use Rattle.std.specs.Prelude.{◌≡◌, ◌<◌, length, get_or};
+ghost use Rattle.model.specs.Numbers.{refused_by};
 ghost use Rattle.model.specs.Calls.{exec, on, own_refusal};
 ghost use Rattle.model.specs.Calls as calls;
 ghost use Rattle.model.specs.declared.Pane.{Pane};
 ghost use Rattle.call_common.specs.Answers.{state, answer};
 
-use call_common::{Answered, REFUSE_END, admit, refused};
-use model::{Console, Reply, Row};
-use words::number_if;
+use call_common::{Answered, admit, refused, replied};
+use model::{Console, Refusal, Reply, Row};
 
-// Peek's own refusal: 2 if the address is not below the store's length, or 0.
-fn peek_refusal(row: Row, address: u32) -> u8
-    ensures { (p : Pane) → result ≡ own_refusal row p (calls.peek address) }
+// Peek's own check: refused 2 if the address is not below the store's length.
+#[tactic(auto, unfolding(model::specs::Calls::own_refusal))]
+fn check_peek(row: Row, address: u32) -> Result<(), Refusal>
+    ensures { (p : Pane) → refused_by result ≡ own_refusal row p (calls.peek address) }
 {
-    number_if(row.len <= address, REFUSE_END, 0)
+    if row.len <= address {
+        return Err(Refusal::End);
+    }
+    Ok(())
 }
 
 // The byte at an address of a store.
@@ -30,19 +34,15 @@ pub fn peek(screen: &[u8], stores: &[u8], console: Console, number: u32, address
     ensures { answer result screen.now stores.now
         ≡ exec (state console screen.now stores.now) (on number (calls.peek address)) }
 {
-    let admission = admit(screen.len(), stores.len(), console, number);
-    if admission.refusal != 0 {
-        return refused(console, admission.refusal);
-    }
-    let own = peek_refusal(admission.row, address);
-    if own != 0 {
-        return refused(console, own);
+    let admission = match admit(screen.len(), stores.len(), console, number) {
+        Ok(admission) => admission,
+        Err(refusal) => return refused(console, refusal),
+    };
+    if let Err(refusal) = check_peek(admission.row, address) {
+        return refused(console, refusal);
     }
     let start = admission.row.start as usize;
     let end = start + admission.row.len as usize;
     let value = byte_at(&stores[start..end], address as usize);
-    Answered {
-        console,
-        reply: Reply::Value(value),
-    }
+    replied(console, Reply::Value(value))
 }

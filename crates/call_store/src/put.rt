@@ -1,23 +1,27 @@
 // Put: bytes written into a pane's store.
 ghost use Rattle.std.specs.Prelude.{◌≡◌, ◌+◌, ◌≤◌, length};
+ghost use Rattle.model.specs.Numbers.{refused_by};
 ghost use Rattle.model.specs.Calls.{exec, on, own_refusal, in_part};
 ghost use Rattle.model.specs.Calls as calls;
 ghost use Rattle.model.specs.declared.Pane.{Pane};
 ghost use Rattle.call_common.specs.Answers.{state, answer};
 
-use call_common::{Answered, REFUSE_END, admit, refused};
-use model::{Console, Reply, Row};
-use words::number_if;
+use call_common::{Answered, admit, refused, replied};
+use model::{Console, Refusal, Reply, Row};
 
-// Put's own refusal: 2 if the bytes, from the address on, pass the store's end, or 0.
-fn put_refusal(row: Row, address: u32, bytes: &[u8]) -> u8
-    ensures { (p : Pane) → result ≡ own_refusal row p (calls.put address bytes.now) }
+// Put's own check: refused 2 if the bytes, from the address on, pass the store's end.
+#[tactic(auto, unfolding(model::specs::Calls::own_refusal))]
+fn check_put(row: Row, address: u32, bytes: &[u8]) -> Result<(), Refusal>
+    ensures { (p : Pane) → refused_by result ≡ own_refusal row p (calls.put address bytes.now) }
 {
     if row.len < address {
-        return REFUSE_END;
+        return Err(Refusal::End);
     }
     let room = (row.len - address) as usize;
-    number_if(room < bytes.len(), REFUSE_END, 0)
+    if room < bytes.len() {
+        return Err(Refusal::End);
+    }
+    Ok(())
 }
 
 // The bytes stand in the store from the address on, all else kept.
@@ -26,10 +30,8 @@ fn write(store: &mut [u8], address: usize, bytes: &[u8])
     ensures { store.new
         ≡ in_part store.old address (length bytes.now) bytes.now }
 {
-    let mut i = 0;
-    while i < bytes.len() {
-        store[address + i] = bytes[i];
-        i += 1;
+    for (i, byte) in bytes.iter().enumerate() {
+        store[address + i] = *byte;
     }
 }
 
@@ -47,19 +49,15 @@ pub fn put(
         ≡ exec (state console screen.now stores.old)
         (on number (calls.put address bytes.now)) }
 {
-    let admission = admit(screen.len(), stores.len(), console, number);
-    if admission.refusal != 0 {
-        return refused(console, admission.refusal);
-    }
-    let own = put_refusal(admission.row, address, bytes);
-    if own != 0 {
-        return refused(console, own);
+    let admission = match admit(screen.len(), stores.len(), console, number) {
+        Ok(admission) => admission,
+        Err(refusal) => return refused(console, refusal),
+    };
+    if let Err(refusal) = check_put(admission.row, address, bytes) {
+        return refused(console, refusal);
     }
     let start = admission.row.start as usize;
     let end = start + admission.row.len as usize;
     write(&mut stores[start..end], address as usize, bytes);
-    Answered {
-        console,
-        reply: Reply::Done,
-    }
+    replied(console, Reply::Done)
 }

@@ -17,7 +17,7 @@ use Rattle.model.specs.Dots.{Dot, dot, something, below, visible}
 use Rattle.model.proofs.Decisions.{split, cond_true, cond_false, both_true, both_of, and_false, and_left}
 use Rattle.raster.specs.Place.{Drawable}
 use Rattle.coordinates.specs.Offsets.{index_in}
-use Rattle.coordinates.specs.declared.Index.TheVariants.{At, Outside}
+use Rattle.std.specs.Prelude.{Some, None}
 use Rattle.canvas.specs.declared.Target.{Target}
 use Rattle.canvas.specs.Canvas.{Canvas, canvas, changed_unless, counted, hit, painted}
 use Rattle.canvas.specs.Targets.{Ready, InClip, change_with}
@@ -63,14 +63,14 @@ unfolding painted visible
 painted_nothing t p c = refl
 
 -- a coordinate outside the clip's is no index
-index_outside : (lo hi : ℕ) (z : ℤ) → index_in lo hi z ≡ Outside → between lo hi z ≡ false
+index_outside : (lo hi : ℕ) (z : ℤ) → index_in lo hi z ≡ None → between lo hi z ≡ false
 unfolding index_in
 index_outside lo hi z e = split (between lo hi z)
-    (λ b. let a : At (index z) ≡ Outside = sym (cond_true (At (index z)) Outside b)
+    (λ b. let a : Some (index z) ≡ None = sym (cond_true (Some (index z)) None b)
     ∙ e in let n : ◌≡◌ {A = ℕ} 0 1 = cc in absurd (let f : ⊥ = omega arith in f))
     (λ b. b)
 
-pub painted_outside_x : (t : Target) (d : Dot) (c : Canvas) → index_in t.clip.xmin t.clip.xmax d.place.x ≡ Outside → painted t d c ≡ c
+pub painted_outside_x : (t : Target) (d : Dot) (c : Canvas) → index_in t.clip.xmin t.clip.xmax d.place.x ≡ None → painted t d c ≡ c
 unfolding painted visible
 painted_outside_x t d c e = cond_false _ _
     (and_false (something d.source) _ (and_false (below t.area.surface.width d.place.x) _
@@ -78,7 +78,7 @@ painted_outside_x t d c e = cond_false _ _
     (and_left (between t.clip.xmin t.clip.xmax d.place.x) (between t.clip.ymin t.clip.ymax d.place.y)
     (index_outside _ _ d.place.x e)))))
 
-pub painted_outside_y : (t : Target) (d : Dot) (c : Canvas) → index_in t.clip.ymin t.clip.ymax d.place.y ≡ Outside → painted t d c ≡ c
+pub painted_outside_y : (t : Target) (d : Dot) (c : Canvas) → index_in t.clip.ymin t.clip.ymax d.place.y ≡ None → painted t d c ≡ c
 unfolding painted visible
 painted_outside_y t d c e = cond_false _ _
     (and_false (something d.source) _ (and_false (below t.area.surface.width d.place.x) _
@@ -93,18 +93,18 @@ pub record Clipped (lo hi : ℕ) (z : ℤ) (k : ℕ) : Type 0 where
   pub high : k ≤ hi
   pub is : z ≡ pos k
 
-index_cases : (lo hi : ℕ) (z : ℤ) (k : ℕ) → between lo hi z ≡ true → At (index z) ≡ At k → Clipped lo hi z k
+index_cases : (lo hi : ℕ) (z : ℤ) (k : ℕ) → between lo hi z ≡ true → Some (index z) ≡ Some k → Clipped lo hi z k
 index_cases lo hi (pos j) k b e =
     let q : j ≡ k = cc in
     let w = both_true (leb lo j) (leb j hi) b in
     record { low = omega (arith, leb-true lo j w.0); high = omega (arith, leb-true j hi w.1); is = ap pos q }
 index_cases lo hi (negsuc j) k b e = let n : ◌≡◌ {A = ℕ} 0 1 = cc in absurd (let f : ⊥ = omega arith in f)
 
-pub index_clipped : (lo hi : ℕ) (z : ℤ) (k : ℕ) → index_in lo hi z ≡ At k → Clipped lo hi z k
+pub index_clipped : (lo hi : ℕ) (z : ℤ) (k : ℕ) → index_in lo hi z ≡ Some k → Clipped lo hi z k
 unfolding index_in
 index_clipped lo hi z k e = split (between lo hi z)
-    (λ b. index_cases lo hi z k b (sym (cond_true (At (index z)) Outside b) ∙ e))
-    (λ b. let a : Outside ≡ At k = sym (cond_false (At (index z)) Outside b) ∙ e in let n : ◌≡◌ {A = ℕ} 0 1 = cc in absurd (let f : ⊥ = omega arith in f))
+    (λ b. index_cases lo hi z k b (sym (cond_true (Some (index z)) None b) ∙ e))
+    (λ b. let a : None ≡ Some k = sym (cond_false (Some (index z)) None b) ∙ e in let n : ◌≡◌ {A = ℕ} 0 1 = cc in absurd (let f : ⊥ = omega arith in f))
 
 -- ## A change, by the flags
 

@@ -45,16 +45,7 @@ pub fn landing_clip(r: Row, p: Pane) -> Clip
     let scissor = p.scissor;
     match bitmap {
         Bitmap::Absent => p.clip,
-        Bitmap::Pane {
-            xmax: _,
-            ymax: _,
-            bits: _,
-        } => limits_of(r, scissor),
-        Bitmap::Store {
-            address: _,
-            xmax: _,
-            ymax: _,
-            bits: _,
-        } => p.clip,
+        Bitmap::Pane { .. } => limits_of(r, scissor),
+        Bitmap::Store { .. } => p.clip,
     }
 }

@@ -12,7 +12,6 @@ ghost use Rattle.canvas.specs.Canvas.{canvas, changed_unless, painted, count_end
 ghost use Rattle.canvas.specs.Targets.{Ready, InClip, Aimable, change_with, target_of, course_of, place_on};
 
 use bitmaps::Area;
-use coordinates::Index;
 use landing::landing_clip;
 use model::{Clip, Frame, Pane, Pen, Point, Source};
 use raster::Truth;
@@ -173,10 +172,10 @@ pub fn draw_dot(
     let clip = t.clip;
     let from = course.from;
     let h = course.heading;
-    let Index::At(x) = coordinates::index_between(from.x, h.left, o.x, clip.xmin, clip.xmax) else {
+    let Some(x) = coordinates::index_between(from.x, h.left, o.x, clip.xmin, clip.xmax) else {
         return hits;
     };
-    let Index::At(y) = coordinates::index_between(from.y, h.up, o.y, clip.ymin, clip.ymax) else {
+    let Some(y) = coordinates::index_between(from.y, h.up, o.y, clip.ymin, clip.ymax) else {
         return hits;
     };
     plot(screen, store, t, x, y, source, hits)

@@ -6,7 +6,7 @@ use mir.Facts.{to_z_pos}
 use Rattle.model.specs.Coordinates.{coord, sign_as, negative, index}
 use Rattle.model.proofs.Decisions.{split}
 use Rattle.coordinates.specs.Offsets.{directed, index_in}
-use Rattle.coordinates.specs.declared.Index.TheVariants.{At, Outside}
+use Rattle.std.specs.Prelude.{Some, None}
 
 -- ## Magnitudes
 
@@ -99,17 +99,17 @@ pub cast_between : (z : ℤ) (lo : ℕ) → SFits w32 z → lt_z z (pos lo) ≡ 
 cast_between (pos k) lo f h = (tt, record { fits = let g : k < 2147483648 = f.sfits in omega arith })
 cast_between (negsuc k) lo f h = absurd (subst T h tt)
 
-pub index_low : (lo hi : ℕ) (z : ℤ) → lt_z z (pos lo) ≡ true → Outside ≡ index_in lo hi z
+pub index_low : (lo hi : ℕ) (z : ℤ) → lt_z z (pos lo) ≡ true → None ≡ index_in lo hi z
 unfolding index_in
 index_low lo hi (pos k) h = let l = ltb-true k lo h in rw (lt-leb lo k l)
 index_low lo hi (negsuc k) h = refl
 
-pub index_high : (lo hi : ℕ) (z : ℤ) → lt_z z (pos lo) ≡ false → lt_z (pos hi) z ≡ true → Outside ≡ index_in lo hi z
+pub index_high : (lo hi : ℕ) (z : ℤ) → lt_z z (pos lo) ≡ false → lt_z (pos hi) z ≡ true → None ≡ index_in lo hi z
 unfolding index_in
 index_high lo hi (pos k) g h = let l = ltb-true hi k h in let m = ltb-false k lo g in rw (le-leb lo k m, lt-leb k hi l)
 index_high lo hi (negsuc k) g h = refl
 
-pub index_at : (lo hi : ℕ) (z : ℤ) → lt_z z (pos lo) ≡ false → lt_z (pos hi) z ≡ false → At (nat_abs z) ≡ index_in lo hi z
+pub index_at : (lo hi : ℕ) (z : ℤ) → lt_z z (pos lo) ≡ false → lt_z (pos hi) z ≡ false → Some (nat_abs z) ≡ index_in lo hi z
 unfolding index_in
 index_at lo hi (pos k) g h = let l = ltb-false hi k h in let m = ltb-false k lo g in rw (le-leb lo k m, le-leb k hi l)
 index_at lo hi (negsuc k) g h = absurd (subst T g tt)

@@ -1,9 +1,8 @@
 -- Offsets in a direction, and coordinates as indices.
-use Rattle.std.specs.Prelude.{◌≡◌, ℕ, ◌<◌, ◌≤◌, Bool, true, false, cond, ◌&&◌, ℤ, pos, ◌+ℤ◌, ◌-ℤ◌, neg_ℤ, nat_le, nat_lt}
+use Rattle.std.specs.Prelude.{◌≡◌, ℕ, ◌<◌, ◌≤◌, Bool, true, false, cond, ◌&&◌, ℤ, pos, ◌+ℤ◌, ◌-ℤ◌, neg_ℤ, nat_le, nat_lt, Some, None}
+use Rattle.std.specs.declared.option.Option.{Option}
 use Rattle.model.specs.Coordinates.{between, index}
 use Rattle.coordinates.specs.declared.Edges.{Edges}
-use Rattle.coordinates.specs.declared.Index.{Index}
-use Rattle.coordinates.specs.declared.Index.TheVariants.{At, Outside}
 
 -- k forward, or back
 abbrev pub directed : Bool → ℕ → ℤ
@@ -11,8 +10,8 @@ directed false k = pos k
 directed true k = neg_ℤ (pos k)
 
 -- a coordinate from lo to hi is that index
-unfoldable pub index_in : ℕ → ℕ → ℤ → Index
-index_in lo hi z = cond (between lo hi z) (At (index z)) Outside
+unfoldable pub index_in : ℕ → ℕ → ℤ → Option ℕ
+index_in lo hi z = cond (between lo hi z) (Some (index z)) None
 
 -- a coordinate that is kept 65,536 larger
 abbrev pub unbiased : ℕ → ℤ

@@ -54,26 +54,19 @@ pub fn along(at: u16, back: bool, k: usize) -> i32
     }
 }
 
-// A coordinate as an index from lo to hi, or outside.
-#[derive(Clone, Copy)]
-pub enum Index {
-    At(usize),
-    Outside,
-}
-
-// Where at + k, or at - k if back, lies between lo and hi.
-pub fn index_between(at: u16, back: bool, k: usize, lo: u16, hi: u16) -> Index
+// at + k, or at - k if back, as an index where it lies from lo to hi.
+pub fn index_between(at: u16, back: bool, k: usize, lo: u16, hi: u16) -> Option<usize>
     requires { k ≤ 65536 }
     ensures { result ≡ index_in lo hi (coord at +ℤ directed back k) }
 {
     let z = along(at, back, k);
     if z < lo as i32 {
-        return Index::Outside;
+        return None;
     }
     if z > hi as i32 {
-        return Index::Outside;
+        return None;
     }
-    Index::At(z as usize)
+    Some(z as usize)
 }
 
 // Two edges: of the numbers from 0 on, those from the first to below the second.

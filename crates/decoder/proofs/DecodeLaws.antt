@@ -12,10 +12,13 @@ use Rattle.model.specs.Commands.{Addressed, link_to, call_to, bitmap_at, font_at
 use Rattle.model.specs.Commands.{decode}
 use Rattle.model.specs.declared.Opcode.{Opcode}
 use Rattle.model.specs.declared.Opcode.TheVariants as opcode
+use Rattle.std.specs.Prelude.{Some, None}
+use Rattle.std.specs.declared.option.Option.{Option}
+use Rattle.model.specs.declared.Fault.{Fault}
 use Rattle.model.specs.declared.OpcodeEntry.{OpcodeEntry}
-use Rattle.model.specs.declared.OpcodeEntry.TheVariants.{Known, Unknown}
 use Rattle.model.specs.declared.Command.{Command}
-use Rattle.model.specs.declared.Decoded.TheVariants.{Do, End, Fault}
+use Rattle.model.specs.declared.Decoded.TheVariants.{Do, End}
+use Rattle.model.specs.declared.Decoded.TheVariants as decoded
 use Rattle.model.proofs.Decisions.{split, either_false}
 
 -- ## What a decoded command came from
@@ -28,19 +31,19 @@ pub record Fetched (len : ℕ) (s : List ℕ) (at : ℕ) (k : Command) (next : �
   pub after : next ≡ at + 2 + 2 * count
   pub whole : k ≡ command_of op (parameter s at)
 
-fault_do : {f : ℕ} {k : Command} {next : ℕ} → Fault f ≡ Do k next → ⊥
+fault_do : {f : Fault} {k : Command} {next : ℕ} → decoded.Fault f ≡ Do k next → ⊥
 fault_do e = let z : ◌≡◌ {A = ℕ} 0 1 = cc in omega arith
 
 end_do : {k : Command} {next : ℕ} → End ≡ Do k next → ⊥
 end_do e = let z : ◌≡◌ {A = ℕ} 0 1 = cc in omega arith
 
-fetch_do : (len : ℕ) (s : List ℕ) (at : ℕ) (h : OpcodeEntry) (k : Command) (next : ℕ) → at % 2 ≡ 0 → fetch len s at h ≡ Do k next → Fetched len s at k next
+fetch_do : (len : ℕ) (s : List ℕ) (at : ℕ) (h : Option OpcodeEntry) (k : Command) (next : ℕ) → at % 2 ≡ 0 → fetch len s at h ≡ Do k next → Fetched len s at k next
 unfolding fetch
-fetch_do len s at Unknown k next v e = absurd (fault_do e)
-fetch_do len s at (Known op n) k next v e = split (ltb len (at + 2 + 2 * n))
+fetch_do len s at None k next v e = absurd (fault_do e)
+fetch_do len s at (Some h) k next v e = split (ltb len (at + 2 + 2 * h.words))
     (λ t. absurd (fault_do (rw t at e)))
-    (λ t. let d : Do (command_of op (parameter s at)) (at + 2 + 2 * n) ≡ Do k next = rw t at e in
-    record { op = op; count = n; even = v; inside = ltb-false len (at + 2 + 2 * n) t; after = cc; whole = cc })
+    (λ t. let d : Do (command_of h.opcode (parameter s at)) (at + 2 + 2 * h.words) ≡ Do k next = rw t at e in
+    record { op = h.opcode; count = h.words; even = v; inside = ltb-false len (at + 2 + 2 * h.words) t; after = cc; whole = cc })
 
 pub decode_do : (len : ℕ) (s : List ℕ) (at : ℕ) (k : Command) (next : ℕ) → decode len s at ≡ Do k next → Fetched len s at k next
 unfolding decode

@@ -3,49 +3,50 @@
 
 ghost use Rattle.std.specs.Prelude.{◌≡◌, ◌+◌, ◌*◌, ◌%◌, ◌≤◌, eqb, length};
 ghost use Rattle.model.specs.Words.{address};
-ghost use Rattle.model.specs.Commands.{opcode_of, parameter, command_of, decode};
+ghost use Rattle.model.specs.Commands.{known, opcode_of, parameter, command_of, decode};
 ghost use Rattle.decoder.specs.Counts.{word_count, block_at};
 
-use model::{Block, Command, Decoded, Opcode, OpcodeEntry};
+use model::{Block, Command, Decoded, Fault, Opcode, OpcodeEntry};
 
-// "An unknown opcode gives 20."
-const FAULT_OPCODE: u8 = 20;
+// A known opcode with the number of its parameter words.
+fn known(opcode: Opcode, words: u8) -> Option<OpcodeEntry>
+    ensures { result ≡ known opcode words }
+{
+    Some(OpcodeEntry { opcode, words })
+}
 
-// "A pointer that is odd or whose word is outside the store gives fault 21", and so do parameter words
-// outside it.
-const FAULT_FETCH: u8 = 21;
-
-// What an opcode number names and how many parameter words it has, or unknown.
-pub fn opcode_of(op: u8) -> OpcodeEntry
+// What an opcode number names and how many parameter words it has; none if it is unknown.
+#[tactic(auto, unfolding(model::specs::Commands::opcode_of))]
+pub fn opcode_of(op: u8) -> Option<OpcodeEntry>
     ensures { result ≡ opcode_of op }
 {
     match op {
-        0x02 => OpcodeEntry::Known(Opcode::Link, 2),
-        0x03 => OpcodeEntry::Known(Opcode::Nop, 0),
-        0x06..=0x07 => OpcodeEntry::Known(Opcode::DefTexture(op == 0x07), 1),
-        0x0A..=0x0B => OpcodeEntry::Known(Opcode::DefCharSet(op == 0x0B), 2),
-        0x0F => OpcodeEntry::Known(Opcode::Call, 2),
-        0x17 => OpcodeEntry::Known(Opcode::Return, 0),
-        0x1A => OpcodeEntry::Known(Opcode::DefBitmap, 5),
-        0x3D => OpcodeEntry::Known(Opcode::DefColors, 2),
-        0x41 => OpcodeEntry::Known(Opcode::DefLogicalOp, 2),
-        0x44 => OpcodeEntry::Known(Opcode::EnterPick, 0),
-        0x45 => OpcodeEntry::Known(Opcode::ExitPick, 0),
-        0x46 => OpcodeEntry::Known(Opcode::DefClipRect, 4),
-        0x4D => OpcodeEntry::Known(Opcode::DefSpace, 1),
-        0x4E => OpcodeEntry::Known(Opcode::DefCharOrient, 1),
-        0x4F => OpcodeEntry::Known(Opcode::AbsMov, 2),
-        0x52 => OpcodeEntry::Known(Opcode::RelMov, 2),
-        0x53 => OpcodeEntry::Known(Opcode::Point, 2),
-        0x54..=0x55 => OpcodeEntry::Known(Opcode::Line, 2),
-        0x58 => OpcodeEntry::Known(Opcode::Rect, 2),
-        0x64 => OpcodeEntry::Known(Opcode::BitBlt, 4),
-        0x74 => OpcodeEntry::Known(Opcode::Polyline, 3),
-        0x8E => OpcodeEntry::Known(Opcode::Circle, 1),
-        0xA6..=0xA9 => OpcodeEntry::Known(Opcode::Char(op % 2 == 1), 3),
-        0xAE => OpcodeEntry::Known(Opcode::BitBltM, 8),
-        0xBA => OpcodeEntry::Known(Opcode::ScanLines, 3),
-        _ => OpcodeEntry::Unknown,
+        0x02 => known(Opcode::Link, 2),
+        0x03 => known(Opcode::Nop, 0),
+        0x06..=0x07 => known(Opcode::DefTexture(op == 0x07), 1),
+        0x0A..=0x0B => known(Opcode::DefCharSet(op == 0x0B), 2),
+        0x0F => known(Opcode::Call, 2),
+        0x17 => known(Opcode::Return, 0),
+        0x1A => known(Opcode::DefBitmap, 5),
+        0x3D => known(Opcode::DefColors, 2),
+        0x41 => known(Opcode::DefLogicalOp, 2),
+        0x44 => known(Opcode::EnterPick, 0),
+        0x45 => known(Opcode::ExitPick, 0),
+        0x46 => known(Opcode::DefClipRect, 4),
+        0x4D => known(Opcode::DefSpace, 1),
+        0x4E => known(Opcode::DefCharOrient, 1),
+        0x4F => known(Opcode::AbsMov, 2),
+        0x52 => known(Opcode::RelMov, 2),
+        0x53 => known(Opcode::Point, 2),
+        0x54..=0x55 => known(Opcode::Line, 2),
+        0x58 => known(Opcode::Rect, 2),
+        0x64 => known(Opcode::BitBlt, 4),
+        0x74 => known(Opcode::Polyline, 3),
+        0x8E => known(Opcode::Circle, 1),
+        0xA6..=0xA9 => known(Opcode::Char(op % 2 == 1), 3),
+        0xAE => known(Opcode::BitBltM, 8),
+        0xBA => known(Opcode::ScanLines, 3),
+        _ => None,
     }
 }
 
@@ -187,26 +188,27 @@ fn ends(word: u16) -> bool
     word % 2 == 1
 }
 
-// What stands at the pointer: a fault where the pointer is odd, a word of the command is outside the store or
-// the opcode is unknown; the end, looked at before the opcode; else the command, with the address after it.
+// What stands at the pointer: "A pointer that is odd or whose word is outside the store gives fault 21", and so do
+// parameter words outside it; "An unknown opcode gives 20"; the end, looked at before the opcode; else the command, with
+// the address after it.
 pub fn decode(store: &[u8], pointer: u32) -> Decoded
     requires { length store.now ≤ 2097152 }
     ensures { result ≡ decode (length store.now) store.now pointer }
 {
     let at = pointer as usize;
     if (at % 2 == 1) | (store.len() < at + 2) {
-        return Decoded::Fault(FAULT_FETCH);
+        return Decoded::Fault(Fault::Fetch);
     }
     let word = words::word(store, at);
     if ends(word) {
         return Decoded::End;
     }
-    let OpcodeEntry::Known(op, count) = opcode_of((word / 256) as u8) else {
-        return Decoded::Fault(FAULT_OPCODE);
+    let Some(entry) = opcode_of((word / 256) as u8) else {
+        return Decoded::Fault(Fault::Opcode);
     };
-    let next = at + 2 + 2 * (count as usize);
+    let next = at + 2 + 2 * (entry.words as usize);
     if store.len() < next {
-        return Decoded::Fault(FAULT_FETCH);
+        return Decoded::Fault(Fault::Fetch);
     }
-    Decoded::Do(command(store, at, op), next as u32)
+    Decoded::Do(command(store, at, entry.opcode), next as u32)
 }

@@ -80,13 +80,11 @@ pub fn polyline(
     };
     let mut first = 0;
     let mut index = 0;
-    let mut k = 0;
-    while k < n {
+    for k in 0..n {
         let s = segment_at(store, array + 4 * k, first, index);
         d = leg(screen, store, &stamps, t, d, s);
         index += draw_lines::pixels_of(s);
         first = 1;
-        k += 1;
     }
     d
 }
@@ -127,9 +125,10 @@ fn line_either_way(
         (canvas screen.old store.old hits) (canvas screen.new store.new result) }
 {
     if coordinates::is_negative(len) {
-        return draw_lines::lone_line(screen, store, t, from, whole_line(len, 0), hits);
+        draw_lines::lone_line(screen, store, t, from, whole_line(len, 0), hits)
+    } else {
+        draw_lines::level_line(screen, store, strips, t, from, len, hits)
     }
-    draw_lines::level_line(screen, store, strips, t, from, len, hits)
 }
 
 // One triple of SCAN_LINES: the position moves by (dx,dy), and stays at the start of a horizontal LINE.
@@ -177,11 +176,9 @@ pub fn scan_lines(
         trap: false,
         hits: 0,
     };
-    let mut k = 0;
-    while k < n {
+    for k in 0..n {
         let s = triple_at(store, array + 6 * k);
         d = scan(screen, store, &strips, t, d, s);
-        k += 1;
     }
     d
 }

@@ -3,7 +3,7 @@ use mathlib.Core.Path.{◌≡◌, refl, sym, ap, ◌∙◌}
 use mathlib.Core.Logic.{◌≢◌}
 use mathlib.Core.Bool.{Bool, true, false, cond, ◌&&◌}
 use mathlib.Core.List.{List, [], ◌∷◌, ◌++◌}
-use Prim.Native.Nat.{ℕ, zero, suc, ◌+◌, ◌*◌, ◌≤◌, ◌<◌}
+use Prim.Native.Nat.{ℕ, zero, suc}
 use native.Mathlib.Omega.{arith}
 use borrow.Author.Tests.{eq-eqb, ne_eqb, lt-ltb}
 use lib.Dec.{eqb, ltb}
@@ -23,8 +23,8 @@ use Rattle.draw_circles.specs.declared.sheets.Sheet.{Sheet}
 use Rattle.draw_circles.specs.declared.sides.Side.{Side}
 use Rattle.draw_circles.specs.declared.sides.Sides.{Sides}
 use Rattle.draw_circles.specs.Sides.{side_in, SideAt, SidesOf}
-use Rattle.draw_circles.specs.Sheets.{SheetReady, InLimits, Room, SheetOf, on_sheet, Dabbed, dots_at, dots_on, dot_if}
-use Rattle.draw_circles.proofs.SheetLaws.{dabbed_none, dabbed_same, dabbed_more, places_then, dot_visible}
+use Rattle.draw_circles.specs.Sheets.{SheetReady, InLimits, SheetOf, on_sheet, Dabbed, dots_at, dots_on, dot_if}
+use Rattle.draw_circles.proofs.SheetLaws.{dabbed_same, dabbed_more, places_then, dot_visible}
 
 -- ## One of the four places
 
@@ -159,69 +159,16 @@ reflections_beside (suc a) (suc b) n =
       ne_eqb (suc b) (suc a) (omega arith),
     )
 
--- the offset that a turn draws, and the places drawn before it
-abbrev pub exchanged : Offset → Offset
-exchanged o = record { x = o.y; y = o.x }
+-- (x,y) mirrored, then (y,x) where it is beside a diagonal
+module _ {s : Sheet} {stamps : List ℕ} {o : Offset} {old mid : List ℕ} {hits n : ℕ}
+    (d : Dabbed s stamps (dots_on s (once [] (mirrored o.x o.y))) 4 old mid hits n) where
+  pub diagonal_dabbed : o.x ≡ o.y → Dabbed s stamps (dots_on s (once [] (reflections o.x o.y))) 8 old mid hits n
+  diagonal_dabbed e =
+      let f : once [] (mirrored o.x o.y) ≡ once [] (reflections o.x o.y) = rw e (reflections_diagonal o.y) in
+      dabbed_more (dabbed_same d (dots_on s (once [] (reflections o.x o.y))) (λ t. ap (dots_at t s.centre) f)) (omega arith)
 
-abbrev turn_offset : Offset → ℕ → Offset
-turn_offset o zero = o
-turn_offset o (suc n) = exchanged o
-
-abbrev places_before : Offset → ℕ → List Place
-places_before o zero = []
-places_before o (suc zero) = once [] (mirrored o.x o.y)
-places_before o (suc (suc n)) = once [] (reflections o.x o.y)
-
--- the loop's invariant: there is a second turn only beside the diagonals
-pub record Turning (s : Sheet) (stamps : List ℕ) (o : Offset) (old new : List ℕ) (hits n : ℕ) (q : Offset) (turn : ℕ) : Type 0 where
-  pub offset : q ≡ turn_offset o turn
-  pub beside : 0 < turn → o.x ≢ o.y
-  pub dabbed : Dabbed s stamps (dots_on s (places_before o turn)) (4 * turn) old new hits n
-  pub last : turn ≤ 2
-
-pub turning_first : (s : Sheet) (stamps : List ℕ) (o : Offset) (old : List ℕ) (hits : ℕ) → Turning s stamps o old old hits hits o 0
-turning_first s stamps o old hits = record { offset = refl; beside = λ l. absurd (omega arith); dabbed = dabbed_none old hits; last = omega arith }
-
-module _ {s : Sheet} {stamps : List ℕ} {o : Offset} {old new : List ℕ} {hits n : ℕ} {q : Offset} where
-  pub turning_room : (turn : ℕ) → turn < 2 → Turning s stamps o old new hits n q turn → Room s o hits 8 → Room s q n 4
-  turning_room zero l p r =
-      rw p.offset (record { x = r.x; y = r.y; count = omega (arith, p.dabbed.few, r.count); inside = r.inside })
-  turning_room (suc turn) l p r =
-      rw p.offset
-      (record { x = r.y; y = r.x; count = omega (arith, p.dabbed.few, r.count); inside = λ e. ((r.inside e).1, (r.inside e).0) })
-
-  module _ {new' : List ℕ} {n' : ℕ} (d : Dabbed s stamps (dots_on s (once [] (mirrored q.x q.y))) 4 new new' n n') where
-    pub turning_next : (turn : ℕ) → turn < 2 → Turning s stamps o old new hits n q turn → o.x ≢ o.y
-        → Turning s stamps o old new' hits n' (exchanged o) (turn + 1)
-    turning_next zero l p h = record {
-      offset = refl;
-      beside = λ k. h;
-      dabbed = places_then [] (once [] (mirrored o.x o.y)) p.dabbed (rw p.offset at d);
-      last = omega arith;
-    }
-    turning_next (suc zero) l p h = record {
-      offset = refl;
-      beside = λ k. h;
-      dabbed =
-          dabbed_same (places_then (once [] (mirrored o.x o.y)) (once [] (mirrored o.y o.x)) p.dabbed (rw p.offset at d))
-          (dots_on s (once [] (reflections o.x o.y))) (λ t. ap (dots_at t s.centre) (reflections_beside o.x o.y h));
-      last = omega arith;
-    }
-    turning_next (suc (suc k)) l p h = absurd (omega arith)
-
-    -- on a diagonal the first turn has drawn all
-    pub turning_diagonal : (turn : ℕ) → Turning s stamps o old new hits n q turn → o.x ≡ o.y
-        → Dabbed s stamps (dots_on s (once [] (reflections o.x o.y))) 8 old new' hits n'
-    turning_diagonal zero p e =
-        dabbed_more
-        (dabbed_same (places_then [] (once [] (mirrored o.x o.y)) p.dabbed (rw p.offset at d))
-        (dots_on s (once [] (reflections o.x o.y)))
-        (λ t.
-        let f : once [] (mirrored o.x o.y) ≡ once [] (reflections o.x o.y) = rw e (reflections_diagonal o.y) in
-        ap (dots_at t s.centre) f))
-        (omega arith)
-    turning_diagonal (suc k) p e = absurd (p.beside (omega arith) e)
-
-  pub turning_done : (turn : ℕ) → 2 ≤ turn → Turning s stamps o old new hits n q turn
-      → Dabbed s stamps (dots_on s (once [] (reflections o.x o.y))) 8 old new hits n
-  turning_done turn l p = let e : turn ≡ 2 = omega (arith, p.last) in rw e at p.dabbed
+  pub beside_dabbed : {new : List ℕ} {k : ℕ} → o.x ≢ o.y → Dabbed s stamps (dots_on s (once [] (mirrored o.y o.x))) 4 mid new n k
+      → Dabbed s stamps (dots_on s (once [] (reflections o.x o.y))) 8 old new hits k
+  beside_dabbed h q =
+      dabbed_same (places_then (once [] (mirrored o.x o.y)) (once [] (mirrored o.y o.x)) d q) (dots_on s (once [] (reflections o.x o.y)))
+      (λ t. ap (dots_at t s.centre) (reflections_beside o.x o.y h))

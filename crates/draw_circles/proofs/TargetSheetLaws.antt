@@ -1,17 +1,18 @@
 -- The sheet of a target, and what a circle drawn on it leaves of both buffers.
 use mathlib.Core.Path.{◌≡◌, refl, sym, ap, ◌∙◌}
-use mathlib.Core.Bool.{Bool, true, false, cond, ◌&&◌}
+use mathlib.Core.Bool.{Bool, true, false, cond}
 use mathlib.Core.Logic.{◌≢◌}
 use mathlib.Core.List.{List}
 use Prim.Native.Nat.{ℕ, ◌≤◌}
 use Rattle.model.specs.declared.Point.{Point}
 use Rattle.model.specs.Circles.{circle}
-use Rattle.model.proofs.Decisions.{both_true, cond_true, cond_false}
+use Rattle.model.proofs.Decisions.{cond_true, cond_false}
 use Rattle.canvas.specs.declared.Target.{Target}
 use Rattle.canvas.specs.Canvas.{canvas, painted_all, Painted}
 use Rattle.canvas.specs.Targets.{Ready}
 use Rattle.draw_circles.specs.declared.sheets.Sheet.{Sheet}
 use Rattle.draw_circles.specs.declared.sides.Overlap.{Overlap}
+use Rattle.draw_circles.specs.declared.sides.Overlap.TheVariants.{Inside}
 use Rattle.draw_circles.specs.Sides.{OverlapOf}
 use Rattle.draw_circles.specs.Sheets.{SheetReady, Round, SheetOf, Dabbed, circle_on}
 use Rattle.draw_circles.specs.Tables.{StampsFor}
@@ -32,13 +33,13 @@ module _ (t : Target) (centre : Point) where
     table = f;
   }
 
-  pub sheet_round : (r : ℕ) {columns rows : Overlap} → r ≢ 0 → r ≤ 32768
+  pub sheet_round : (r : ℕ) {columns rows : Overlap} (inside : Bool) → r ≢ 0 → r ≤ 32768
       → OverlapOf t.clip.xmin t.clip.xmax centre.x r columns → OverlapOf t.clip.ymin t.clip.ymax centre.y r rows
-      → Round (target_sheet (columns.all && rows.all)) r
-  sheet_round r {columns} {rows} n l h v = record {
+      → (inside ≡ true → (columns ≡ Inside) × (rows ≡ Inside)) → Round (target_sheet inside) r
+  sheet_round r inside n l h v i = record {
     some = n;
     small = l;
-    inside = λ e k m. let b = both_true columns.all rows.all e in record { columns = h.all b.0 k m; rows = v.all b.1 k m };
+    inside = λ e k m. let b = i e in record { columns = h.all b.0 k m; rows = v.all b.1 k m };
   }
 
   -- drawn on the screen, or in the store

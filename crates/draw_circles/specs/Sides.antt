@@ -5,6 +5,7 @@ use Rattle.coordinates.specs.Offsets.{directed, unbiased}
 use Rattle.draw_circles.specs.declared.sides.Side.{Side}
 use Rattle.draw_circles.specs.declared.sides.Sides.{Sides}
 use Rattle.draw_circles.specs.declared.sides.Overlap.{Overlap}
+use Rattle.draw_circles.specs.declared.sides.Overlap.TheVariants.{Outside, Inside}
 
 -- the coordinate k on from another, or back, lies in the limits
 abbrev pub side_in : ℕ → ℕ → ℕ → Bool → ℕ → Bool
@@ -26,5 +27,5 @@ pub record SidesOf (lo hi at k : ℕ) (s : Sides) : Type 0 where
 
 -- none of the coordinates up to r from another lies in the limits, or all of them do
 pub record OverlapOf (lo hi at r : ℕ) (o : Overlap) : Type 0 where
-  pub none : o.some ≡ false → (back : Bool) (k : ℕ) → k ≤ r → side_in lo hi at back k ≡ false
-  pub all : o.all ≡ true → (k : ℕ) → k ≤ r → SidesIn lo hi at k
+  pub none : o ≡ Outside → (back : Bool) (k : ℕ) → k ≤ r → side_in lo hi at back k ≡ false
+  pub all : o ≡ Inside → (k : ℕ) → k ≤ r → SidesIn lo hi at k

@@ -17,7 +17,7 @@ ghost use Rattle.draw_circles.specs.Tables.{StampsFor};
 use canvas::{Course, Drawn, Heading, Offset, Target};
 use model::{Point, Source};
 use sheets::{Sheet, reflections};
-use sides::overlap_of;
+use sides::{Overlap, overlap_of};
 use tables::stamps_for;
 
 // Where the walk along the eighth has come to: the point (i,j), and how far j × (j+1) + i² is above r².
@@ -59,6 +59,7 @@ fn ring(buffer: &mut [u8], stamps: &[u8], s: Sheet, r: usize) -> usize
         j: r,
         excess: r,
     };
+    // A range of columns would say no more: the walk ends where i passes j, and j falls on the way.
     while p.i <= p.j {
         let o = Offset { x: p.i, y: p.j };
         hits = reflections(buffer, stamps, s, o, hits);
@@ -107,24 +108,21 @@ pub fn draw_circle(
     let clip = t.clip;
     let columns = overlap_of(centre.x, r, clip.xmin, clip.xmax);
     let rows = overlap_of(centre.y, r, clip.ymin, clip.ymax);
-    if !columns.some {
+    if columns == Overlap::Outside || rows == Overlap::Outside {
         return 0;
     }
-    if !rows.some {
-        return 0;
-    }
-    let area = t.area;
-    let surface = area.surface;
     let s = Sheet {
-        surface,
+        surface: t.area.surface,
         clip,
         centre,
-        inside: columns.all & rows.all,
+        inside: columns == Overlap::Inside && rows == Overlap::Inside,
     };
-    if area.onscreen {
-        return ring(screen, stamps, s, r);
+    // Two calls and not one on a chosen buffer: a borrow that a test chooses has no generated proof.
+    if t.area.onscreen {
+        ring(screen, stamps, s, r)
+    } else {
+        ring(store, stamps, s, r)
     }
-    ring(store, stamps, s, r)
 }
 
 // CIRCLE by its radius: the position stays.

@@ -11,12 +11,8 @@ use stamps::stamps_of;
 fn blank() -> [u8; 64]
     ensures { (length result ≡ 64) × Blank result }
 {
-    let mut stamps = [0u8; 64];
-    let mut i: usize = 0;
-    while i < 32 {
-        stamps[i] = 255;
-        i += 1;
-    }
+    let mut stamps = [0; 64];
+    stamps[..32].fill(255);
     stamps
 }
 
@@ -28,7 +24,5 @@ pub fn stamps_for(t: Target) -> [u8; 64]
     if t.picking {
         return blank();
     }
-    let area = t.area;
-    let surface = area.surface;
-    stamps_of(t.pen, t.truth, surface.bits)
+    stamps_of(t.pen, t.truth, t.area.surface.bits)
 }

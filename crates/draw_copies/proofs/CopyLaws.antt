@@ -1,6 +1,7 @@
 -- Copies, whole: a patch can be moved if its block lies in its bitmap, and moved it is the copy that was read
 -- first.
-use Rattle.std.proofs.Common.{◌≡◌, ℕ, ◌+◌, ◌-◌, ◌*◌, ◌/◌, ◌%◌, ◌<◌, ◌≤◌, Bool, true, false, cond, ◌⊎◌, List, length, sym, ap, ◌∙◌, inl, inr, ⊎_elim, mul-le-mul_right, mul_comm, mul-le-mul_left, arith}
+use Rattle.std.proofs.Common.{◌≡◌, ℕ, ◌+◌, ◌-◌, ◌*◌, ◌/◌, ◌%◌, ◌<◌, ◌≤◌, Bool, true, false, cond, ◌⊎◌, List, length, refl, sym}
+use Rattle.std.proofs.Common.{ap, ◌∙◌, inl, inr, ⊎_elim, mul-le-mul_right, mul_comm, mul-le-mul_left, arith}
 use Rattle.model.specs.declared.Block.{Block}
 use Rattle.model.specs.declared.Point.{Point}
 use Rattle.model.specs.declared.Surface.{Surface}
@@ -20,7 +21,7 @@ use Rattle.row_copies.specs.declared.operators.Operator.{Operator}
 use Rattle.row_copies.specs.Rows.{OperatorOf}
 use Rattle.row_copies.proofs.PixelLinks.{slidable_rows}
 use Rattle.draw_copies.specs.declared.Patch.{Patch}
-use Rattle.draw_copies.specs.Transfers.{Patched, moved_all, SlidableRows, Movable, Copyable}
+use Rattle.draw_copies.specs.Transfers.{Patched, moved_all, SlidableRows, Movable, Copyable, CopySource}
 use Rattle.draw_copies.proofs.MoveLaws.{Aside, TargetFits, shown_on, painted_patch, ReadFirst, transfer, moved_within, moved_apart}
 use Rattle.draw_copies.proofs.CropLaws.{copy_cropped}
 
@@ -151,6 +152,15 @@ apart_slidable {t} {a} {b = b} up operator h k w =
     inr (⊎_elim (λ g. inl (omega (arith, rw n at v.1, rw sy at g))) (λ g. inr (omega (arith, v.0, e, rw sy at g)))
     (w.unshared.rows (sym o) (ready_some h) (k.down.skip + j) (omega (arith, k.rows.most)))))
 
+-- a patch of either source can be moved
+pub source_movable : {t : Target} {a : Area} {from : Point} {b : Block} {p : Patch} (screen store : List ℕ) (up : Bool) (operator : Operator)
+    → Ready t (length screen) (length store) → Patched t.clip from b p → CopySource t.area a b (length screen) (length store)
+    → OperatorOf t.pen.op t.pen.mask operator → Movable t (transfer a p up operator) (length screen) (length store)
+source_movable screen store up operator h k (inl (e, w)) made =
+    rw e (patch_movable up k h (ready_readable h) w refl made (within_slidable screen store up operator h k w))
+source_movable screen store up operator h k (inr w) made =
+    patch_movable up k h w.readable w.within w.depth made (apart_slidable up operator h k w)
+
 -- ## The copy
 
 module _ (t : Target) (from : Point) (b : Block) (p : Patch) (c : Canvas)
@@ -179,3 +189,9 @@ module _ (t : Target) (from : Point) (b : Block) (p : Patch) (c : Canvas)
           let y : b.y + k.down.skip + j ≡ b.y + (k.down.skip + j) = omega arith in
           rw (x, y) (row_aside a.surface t.area.surface b (k.down.skip + j) w.readable.depth
           (w.unshared.rows e (ready_some h) (k.down.skip + j) (omega (arith, k.rows.most))) (k.across.skip + i) (omega (arith, k.columns.most)))
+
+  -- from either source
+  pub copied_from : (a : Area) (up : Bool) (operator : Operator) → ReadFirst p up → CopySource t.area a b (length c.screen) (length c.store)
+      → moved_all t (transfer a p up operator) c ≡ painted_all t (copy_dots (shown_on a c) (place from) (rectangle_of b)) c
+  copied_from a up operator first (inl (e, w)) = rw e (copied_within up operator first w)
+  copied_from a up operator first (inr w) = copied_apart a up operator w

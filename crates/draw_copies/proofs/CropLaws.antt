@@ -12,7 +12,7 @@ use Rattle.model.proofs.Decisions.{cond_false}
 use Rattle.coordinates.specs.Offsets.{index_in, unbiased, Between}
 use Rattle.coordinates.specs.declared.Edges.{Edges}
 use Rattle.coordinates.proofs.EdgeLaws.{within_true, within_early, within_late, unbiased_on, between_holds}
-use Rattle.coordinates.specs.declared.Index.TheVariants.{At, Outside}
+use Rattle.std.specs.Prelude.{Some, None}
 use Rattle.canvas.specs.declared.Target.{Target}
 use Rattle.canvas.specs.Canvas.{Canvas, painted, painted_all}
 use Rattle.canvas.proofs.CanvasLaws.{painted_all_none, painted_all_joined}
@@ -45,16 +45,6 @@ module _ (lo hi p n b : ℕ) (e : Edges) (at : unbiased b ≡ coord p +ℤ pos 0
   pub first_high : e.first < e.second → 65536 ≤ b + e.first
   first_high l = omega (arith, shown e.first (omega arith) l)
 
-  pub cropped_none : e.second ≤ e.first → Cropped lo hi (coord p) n (record { skip = e.first; count = 0; at = 0 })
-  cropped_none l = record {
-    most = omega (arith, edges.ordered, edges.last);
-    before = λ i k. exact i (omega (arith, edges.ordered, edges.last)) ∙ within_early e.first i e.second k;
-    behind = λ i k m. exact i m ∙ within_late e.first i e.second (omega arith);
-    is = λ i k. absurd (omega arith);
-    inside = λ i k. absurd (omega arith);
-    small = omega arith;
-  }
-
   pub cropped_some : hi < 65536 → e.first < e.second
       → Cropped lo hi (coord p) n (record { skip = e.first; count = e.second - e.first; at = b + e.first - 65536 })
   cropped_some h l = record {
@@ -77,9 +67,9 @@ joined_steps t f = steps_are (λ n. painted_all t (joined 0 n f)) (λ j. painted
 
 -- ## A copy cropped to its clip
 
-outside_index : (lo hi : ℕ) (z : ℤ) → between lo hi z ≡ false → index_in lo hi z ≡ Outside
+outside_index : (lo hi : ℕ) (z : ℤ) → between lo hi z ≡ false → index_in lo hi z ≡ None
 unfolding index_in
-outside_index lo hi z e = cond_false (At (index z)) Outside e
+outside_index lo hi z e = cond_false (Some (index z)) None e
 
 module _ (t : Target) (see : ℕ → ℕ → ℕ) (from : Point) (b : Block) (across down : Extent)
     (columns : Cropped t.clip.xmin t.clip.xmax (coord from.x) (b.dx + 1) across)

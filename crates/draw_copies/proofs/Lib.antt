@@ -6,4 +6,3 @@ pub mod LoopLaws
 pub mod RowLaws
 pub mod CopyLaws
 pub mod SourceLaws
-pub mod WrapLaws

@@ -50,27 +50,22 @@ module _ (t : Target) (m : Transfer) where
 
 -- ## The invariant
 
--- k of n numbered steps are made on the canvas c₀, each with at most w more visible; c is the canvas now
-pub record Stepped (g : ℕ → Canvas → Canvas) (w : ℕ) (c₀ c : Canvas) (k n : ℕ) : Type 0 where
+-- k numbered steps are made on the canvas c₀, each with at most w more visible; c is the canvas now
+pub record Stepped (g : ℕ → Canvas → Canvas) (w : ℕ) (c₀ c : Canvas) (k : ℕ) : Type 0 where
   pub bounded : Bounded g w
   pub made : c ≡ steps g k c₀
   pub lengths : SameLengths c₀ c
-  pub turn : k ≤ n
 
-pub stepped_none : {g : ℕ → Canvas → Canvas} {w : ℕ} → Bounded g w → (c : Canvas) (n : ℕ) → Stepped g w c c 0 n
-stepped_none b c n = record { bounded = b; made = sym (steps_none _ c); lengths = lengths_refl c; turn = omega arith }
+pub stepped_none : {g : ℕ → Canvas → Canvas} {w : ℕ} → Bounded g w → (c : Canvas) → Stepped g w c c 0
+stepped_none b c = record { bounded = b; made = sym (steps_none _ c); lengths = lengths_refl c }
 
-module _ {g : ℕ → Canvas → Canvas} {w : ℕ} (c₀ : Canvas) {c : Canvas} {k n : ℕ} (s : Stepped g w c₀ c k n) where
-  pub stepped_next : {c' : Canvas} → k < n → c' ≡ g k c → Stepped g w c₀ c' (k + 1) n
-  stepped_next l e = record {
+module _ {g : ℕ → Canvas → Canvas} {w : ℕ} (c₀ : Canvas) {c : Canvas} {k : ℕ} (s : Stepped g w c₀ c k) where
+  pub stepped_next : {c' : Canvas} → c' ≡ g k c → Stepped g w c₀ c' (k + 1)
+  stepped_next e = record {
     bounded = s.bounded;
     made = e ∙ ap (g k) s.made ∙ sym (steps_next g k c₀);
     lengths = rw e (lengths_on s.lengths (s.bounded.lengths k c));
-    turn = omega arith;
   }
-
-  pub stepped_all : n ≤ k → c ≡ steps g n c₀
-  stepped_all l = s.made ∙ ap (λ (i : ℕ). steps g i c₀) (let e : k ≡ n = omega (arith, s.turn) in e)
 
   -- a transfer can go on
   pub stepped_movable : {t : Target} {m : Transfer}
@@ -78,7 +73,7 @@ module _ {g : ℕ → Canvas → Canvas} {w : ℕ} (c₀ : Canvas) {c : Canvas} 
   stepped_movable h = rw (s.lengths.screen, s.lengths.store) h
 
   -- the count has room for one step more
-  pub stepped_room : k < n → c₀.hits + n * w < count_end → c.hits + w < count_end
+  pub stepped_room : {n : ℕ} → k < n → c₀.hits + n * w < count_end → c.hits + w < count_end
   stepped_room l h = omega (arith, ap (λ (z : Canvas). z.hits) s.made, steps_few s.bounded k c₀, mul-le-mul_right w l)
 
 -- 65,536 rows of 65,536 pixels are few

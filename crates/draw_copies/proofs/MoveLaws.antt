@@ -1,6 +1,7 @@
 -- A transfer in place: values read row by row are those that stood there before, if no row is drawn on before it is
 -- read. Within a row all values are read first.
-use Rattle.std.proofs.Common.{◌≡◌, ℕ, ◌+◌, ◌/◌, ◌%◌, ◌<◌, ◌≤◌, Bool, true, false, cond, ltb, ◌≢◌, ◌⊎◌, List, get_or, pos, refl, ap, ◌∙◌, inl, inr, arith, ltb-false, ltb-true}
+use Rattle.std.proofs.Common.{◌≡◌, ℕ, ◌+◌, ◌/◌, ◌%◌, ◌<◌, ◌≤◌, Bool, true, false, cond, ltb, ◌≢◌, ◌⊎◌, List, get_or}
+use Rattle.std.proofs.Common.{pos, refl, ap, ◌∙◌, inl, inr, arith, ltb-false, ltb-true}
 use Rattle.model.specs.declared.Surface.{Surface}
 use Rattle.model.specs.declared.Source.TheVariants.{Copied}
 use Rattle.model.specs.Coordinates.{at}

@@ -1,6 +1,6 @@
 -- A copy as the code goes about it: cropped to the clip, then row by row, each row's values read from the buffer as
 -- it is then.
-use Rattle.std.specs.Prelude.{◌≡◌, ℕ, ◌+◌, ◌<◌, ◌≤◌, false, cond, List, ℤ, pos, ◌+ℤ◌}
+use Rattle.std.specs.Prelude.{◌≡◌, ◌⊎◌, ℕ, ◌+◌, ◌<◌, ◌≤◌, false, cond, List, ℤ, pos, ◌+ℤ◌}
 use Rattle.model.specs.declared.Block.{Block}
 use Rattle.model.specs.declared.Clip.{Clip}
 use Rattle.model.specs.declared.Point.{Point}
@@ -105,3 +105,8 @@ pub record Copyable (target source : Area) (b : Block) (screen store : ℕ) : Ty
   pub within : block_bad source.surface (rectangle_of b) ≡ false
   pub unshared : Unshared target source b
   pub depth : source.surface.bits ≡ target.surface.bits
+
+-- what a copy asks of its source: the active bitmap with the block in it, or another one that can be copied from
+abbrev pub CopySource : Area → Area → Block → ℕ → ℕ → Type 0
+CopySource target source b screen store =
+    ((source ≡ target) × (block_bad target.surface (rectangle_of b) ≡ false)) ⊎ Copyable target source b screen store

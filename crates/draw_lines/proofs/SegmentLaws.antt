@@ -4,7 +4,7 @@ use mathlib.Core.Bool.{Bool, true, false}
 use Prim.Native.Nat.{ℕ, suc, ◌+◌, ◌-◌, ◌≤◌, ◌<◌}
 use native.Mathlib.Numerals.{add-one}
 use native.Mathlib.Omega.{arith}
-use borrow.Author.Tests.{le-leb, lt-leb}
+use borrow.Author.Tests.{le-leb}
 use lib.ListN.{length}
 use lib.IntN.{ℤ, pos, neg_ℤ, nat_abs, ◌+ℤ◌, +ℤ_idr, +ℤ_assoc, neg_ℤ-+ℤ}
 use Rattle.model.specs.Ranges.{listed}
@@ -26,25 +26,12 @@ use Rattle.spans.specs.Spans.{index_end, span_dot, span_dots}
 use Rattle.traces.specs.declared.Trace.{Trace}
 use Rattle.traces.specs.Slopes.{longest_line}
 use Rattle.traces.specs.Traces.{TraceSmall, trace_dot, trace_dots}
-use Rattle.traces.proofs.SlopeLaws.{minor_at_rest}
 use Rattle.draw_lines.specs.declared.segments.Segment.{Segment}
 use Rattle.draw_lines.specs.Segments.{dots_of, AxesOf, TraceOf}
 use Rattle.canvas.specs.Targets.{course_of}
 use Rattle.canvas.proofs.CanvasLaws.{listed_length}
 
 -- ## LINE
-
--- the two magnitudes, in either order
-module _ (dx dy : ℤ) {a b : ℕ} (p : a ≡ nat_abs dx) (q : b ≡ nat_abs dy) where
-  pub axes_level : b ≤ a → a < longest_line → AxesOf dx dy (record { level = true; larger = a; smaller = b })
-  axes_level k l =
-      let g : nat_abs dy ≤ nat_abs dx = omega arith in
-      record { level = sym (le-leb (nat_abs dy) (nat_abs dx) g); larger = omega arith; smaller = omega arith; small = l }
-
-  pub axes_steep : a < b → b < longest_line → AxesOf dx dy (record { level = false; larger = b; smaller = a })
-  axes_steep k l =
-      let g : nat_abs dx < nat_abs dy = omega arith in
-      record { level = sym (lt-leb (nat_abs dy) (nat_abs dx) g); larger = omega arith; smaller = omega arith; small = l }
 
 -- a trace from the segment's begin in its direction has the segment's dots
 pub trace_dots_lem : (pen : Pen) (from : Point) (dx dy : ℤ) (r : Trace) → r.heading ≡ (course_of from dx dy).heading → AxesOf dx dy r.axes
@@ -90,9 +77,7 @@ directed_on z true m k =
 
 module _ (len : ℤ) where
   level_offset : (i : ℕ) → minor_at (major len (pos 0)) (minor len (pos 0)) i ≡ 0
-  level_offset i =
-      let e : minor len (pos 0) ≡ 0 = omega arith in
-      rw e (sym (minor_at_rest (major len (pos 0)) 0 i 0 (major len (pos 0)) (omega arith) (omega arith) (omega arith)))
+  level_offset i = grind arith
 
   -- a span from the segment's first pixel in its direction has the segment's dots
   module _ (pen : Pen) (from : Point) (first : ℕ) (r : Span) (el : r.left ≡ negative len)

@@ -10,6 +10,7 @@ use canvas::{Drawn, Offset, Target, course_of};
 use model::Point;
 
 // POINT: the position moves by (dx,dy), and one pixel is drawn there.
+#[tactic(auto, using(crate::proofs::SegmentLaws::point_at_drawn), unfolding(model::specs::Lines::point_at))]
 pub fn point(screen: &mut [u8], store: &mut [u8], t: Target, from: Point, dx: u16, dy: u16) -> Drawn
     requires { Ready t (length screen.old) (length store.old) }
     ensures { Drew t (point_at t.pen (moved from (coord dx) (coord dy)))
@@ -28,6 +29,7 @@ pub fn point(screen: &mut [u8], store: &mut [u8], t: Target, from: Point, dx: u1
 }
 
 // LINE by (dx,dy): the position ends at the far end.
+#[tactic(auto, unfolding(model::specs::Lines::line))]
 pub fn line(screen: &mut [u8], store: &mut [u8], t: Target, from: Point, dx: u16, dy: u16) -> Drawn
     requires { Ready t (length screen.old) (length store.old) }
     ensures { Drew t (line t.pen from (coord dx) (coord dy))

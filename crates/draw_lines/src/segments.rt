@@ -55,17 +55,10 @@ pub fn axes_of(dx: u16, dy: u16) -> Axes
 {
     let a = coordinates::magnitude(dx);
     let b = coordinates::magnitude(dy);
-    if b <= a {
-        return Axes {
-            level: true,
-            larger: a,
-            smaller: b,
-        };
-    }
     Axes {
-        level: false,
-        larger: b,
-        smaller: a,
+        level: b <= a,
+        larger: a.max(b),
+        smaller: a.min(b),
     }
 }
 
@@ -73,10 +66,7 @@ pub fn axes_of(dx: u16, dy: u16) -> Axes
 pub fn is_span(dx: u16, dy: u16) -> bool
     ensures { result ≡ true → dy ≡ 0 }
 {
-    if dy == 0 {
-        return coordinates::magnitude(dx) >= SHORTEST_SPAN;
-    }
-    false
+    dy == 0 && coordinates::magnitude(dx) >= SHORTEST_SPAN
 }
 
 // A segment from a position as a trace.
@@ -84,18 +74,22 @@ pub fn trace_of(from: Point, s: Segment) -> Trace
     requires { Traceable s }
     ensures { TraceOf from s result }
 {
-    let course = canvas::course_of(from, s.dx, s.dy);
-    let heading = course.heading;
-    let axes = axes_of(s.dx, s.dy);
-    let index = s.index;
+    let Segment {
+        dx,
+        dy,
+        first,
+        index,
+    } = s;
+    let course = canvas::course_of(from, dx, dy);
+    let axes = axes_of(dx, dy);
     let x = coordinates::biased(from.x, false, 0);
     let y = coordinates::biased(from.y, false, 0);
     Trace {
         x,
         y,
-        heading,
+        heading: course.heading,
         axes,
-        first: s.first,
+        first,
         index,
     }
 }
@@ -171,8 +165,9 @@ pub fn draw_segment(
         (canvas screen.new store.new result) }
 {
     if is_span(s.dx, s.dy) {
-        return lone_line(screen, store, t, from, s, hits);
+        lone_line(screen, store, t, from, s, hits)
+    } else {
+        let trace = trace_of(from, s);
+        traces::draw_trace(screen, store, stamps, t, trace, hits)
     }
-    let trace = trace_of(from, s);
-    traces::draw_trace(screen, store, stamps, t, trace, hits)
 }

@@ -4,8 +4,7 @@ use mathlib.Core.Bool.{Bool, true, false, cond, ◌||◌}
 use mathlib.Core.List.{List, [], ◌∷◌, ◌++◌, append-nil}
 use Prim.Native.Nat.{ℕ, zero, suc, ◌+◌, ◌-◌, ◌<◌}
 use native.Mathlib.Omega.{arith}
-use borrow.Author.Tests.{le-leb, lt-leb}
-use lib.Dec.{eqb, eqb-suc-zero}
+use lib.Dec.{eqb}
 use lib.IntN.{ℤ, nat_abs}
 use Rattle.model.specs.Ranges.{listed}
 use Rattle.model.specs.Coordinates.{Place, place}
@@ -65,37 +64,29 @@ down a b = cond (eqb a 0 || eqb b 0) 0 (b - 1)
 
 back_lt : (a b k : ℕ) → k < back a b → k < a
 unfolding back
-back_lt a zero k h = absurd (let n : ⊥ = omega arith in n)
-back_lt a (suc b) k h = rw (eqb-suc-zero b) at h
+back_lt a b k h = grind arith
 
 down_lt : (a b k : ℕ) → k < down a b → (k < b - 1) × (back a b ≡ a)
 unfolding back down
-down_lt zero b k h = absurd (let n : ⊥ = omega arith in n)
-down_lt (suc a) zero k h = absurd (let f = rw (eqb-suc-zero a) at h in let n : ⊥ = omega arith in n)
-down_lt (suc a) (suc b) k h = (rw (eqb-suc-zero a, eqb-suc-zero b) at h, rw (eqb-suc-zero b))
+down_lt a b k h = grind arith
 
 sides_length : (a b : ℕ) → suc a + (b + (back a b + (down a b + 0))) ≡ outline_length a b
 unfolding back down
-sides_length zero zero = refl
-sides_length zero (suc b) = rw (eqb-suc-zero b) (omega arith)
-sides_length (suc a) zero = rw (eqb-suc-zero a) (omega arith)
-sides_length (suc a) (suc b) = rw (eqb-suc-zero a, eqb-suc-zero b) (omega arith)
+sides_length a b = grind arith
 
 -- which offset pixel i has, k being its number on its side
 module _ (a b i k : ℕ) where
-  pub side1 : i ≡ k → k < suc a → offset_by k 0 ≡ outline_at a b i
-  side1 e h = rw (e, le-leb k a (omega arith))
+  side1 : i ≡ k → k < suc a → offset_by k 0 ≡ outline_at a b i
+  side1 e h = grind arith
 
-  pub side2 : i ≡ suc a + k → k < b → offset_by a (1 + k) ≡ outline_at a b i
-  side2 e h = rw (lt-leb i a (omega arith), le-leb i (a + b) (omega arith)) (ap (offset_by a) (omega arith))
+  side2 : i ≡ suc a + k → k < b → offset_by a (1 + k) ≡ outline_at a b i
+  side2 e h = grind arith
 
-  pub side3 : i ≡ suc a + b + k → k < a → offset_by (a - (1 + k)) b ≡ outline_at a b i
-  side3 e h =
-      rw (lt-leb i a (omega arith), lt-leb i (a + b) (omega arith), le-leb i (a + b + a) (omega arith)) (ap (λ (x : ℕ). offset_by x b) (omega arith))
+  side3 : i ≡ suc a + b + k → k < a → offset_by (a - (1 + k)) b ≡ outline_at a b i
+  side3 e h = grind arith
 
-  pub side4 : i ≡ suc a + b + a + k → k < b - 1 → offset_by 0 (b - (1 + k)) ≡ outline_at a b i
-  side4 e h =
-      rw (lt-leb i a (omega arith), lt-leb i (a + b) (omega arith), lt-leb i (a + b + a) (omega arith)) (ap (offset_by 0) (omega arith))
+  side4 : i ≡ suc a + b + a + k → k < b - 1 → offset_by 0 (b - (1 + k)) ≡ outline_at a b i
+  side4 e h = grind arith
 
 -- i along x and j along y on the course
 abbrev spot : Course → ℕ → ℕ → Place

@@ -1,18 +1,17 @@
 -- RECT's outline by the numbers of its pixels: how many there are, and where each lies.
-use Rattle.std.specs.Prelude.{◌≡◌, Bool, cond, ◌||◌, ℕ, ◌+◌, ◌-◌, ◌≤◌, leb, eqb, ◌+ℤ◌}
+use Rattle.std.specs.Prelude.{◌≡◌, Bool, true, cond, ◌||◌, ℕ, ◌+◌, ◌-◌, ◌≤◌, ◌<◌, leb, eqb}
 use Rattle.model.specs.Ranges.{listed}
-use Rattle.model.specs.Coordinates.{at}
 use Rattle.model.specs.declared.Pen.{Pen}
 use Rattle.model.specs.Pixels.{pattern_source}
 use Rattle.model.specs.Dots.{Dot, dot}
-use Rattle.coordinates.specs.Offsets.{directed, unbiased}
 use Rattle.canvas.specs.declared.Offset.{Offset}
 use Rattle.canvas.specs.Targets.{place_on}
 use Rattle.spans.specs.declared.Span.{Span}
-use Rattle.spans.specs.Spans.{Bounded, span_dots}
+use Rattle.spans.specs.Spans.{Bounded, longest_span, span_dots}
 use Rattle.traces.specs.declared.Trace.{Trace}
-use Rattle.traces.specs.Traces.{TraceSmall, trace_length, trace_dot, trace_dots}
+use Rattle.traces.specs.Traces.{TraceSmall, trace_dots}
 use Rattle.draw_outlines.specs.declared.Outline.{Outline}
+use Rattle.draw_outlines.specs.declared.Side.{Side}
 
 -- the sides are magnitudes of 16-bit offsets
 pub record Small (o : Outline) : Type 0 where
@@ -52,9 +51,28 @@ pub record TraceSideOf (o : Outline) (i n : ℕ) (s : Trace) : Type 0 where
   pub small : TraceSmall s
   pub dots : (pen : Pen) → trace_dots pen s ≡ listed i n (outline_dot pen o)
 
--- a trace has n pixels of a column from (x,y) on, down or up; x and y are 65,536 larger
-pub record UprightOf (x y : ℕ) (up : Bool) (n index : ℕ) (s : Trace) : Type 0 where
-  pub small : TraceSmall s
-  pub length : trace_length s ≡ n
-  pub dots : (pen : Pen) (k : ℕ)
-      → trace_dot pen s k ≡ dot (at (unbiased x) (unbiased y +ℤ directed up k)) (pattern_source pen (index + k))
+-- ## Sides
+
+-- so many on from i, or back
+abbrev pub onward : Bool → ℕ → ℕ → ℕ
+onward back i k = cond back (i - k) (i + k)
+
+-- where the first pixel of a side lies on the course
+abbrev pub start_of : Outline → Side → Offset
+start_of o s = outline_at o.a o.b s.first
+
+-- a side's pixels lie in a row, one after the other
+pub record Level (o : Outline) (s : Side) : Type 0 where
+  pub inside : s.first + s.n ≤ o.a + o.b + o.a + o.b + 1
+  pub few : s.n ≤ longest_span
+  pub room : (k : ℕ) → k < s.n → s.back ≡ true → k ≤ (start_of o s).x
+  pub along : (k : ℕ) → k < s.n
+      → outline_at o.a o.b (s.first + k) ≡ offset_by (onward s.back (start_of o s).x k) (start_of o s).y
+
+-- .. or in a column
+pub record Upright (o : Outline) (s : Side) : Type 0 where
+  pub inside : s.first + s.n ≤ o.a + o.b + o.a + o.b + 1
+  pub few : s.n ≤ longest_span
+  pub room : (k : ℕ) → k < s.n → s.back ≡ true → k ≤ (start_of o s).y
+  pub along : (k : ℕ) → k < s.n
+      → outline_at o.a o.b (s.first + k) ≡ offset_by (start_of o s).x (onward s.back (start_of o s).y k)

@@ -7,10 +7,9 @@ ghost use Rattle.model.specs.Coordinates.{coord};
 ghost use Rattle.model.specs.Lines.{rectangle};
 ghost use Rattle.canvas.specs.Canvas.{canvas, count_end, Drew, Painted};
 ghost use Rattle.canvas.specs.Targets.{Ready};
-ghost use Rattle.spans.specs.Spans.{longest_span, index_end};
+ghost use Rattle.spans.specs.Spans.{longest_span};
 ghost use Rattle.draw_outlines.specs.Outlines.{longest_outline, outline_at, outline_dot, outline_length};
-ghost use Rattle.traces.specs.Slopes.{longest_line};
-ghost use Rattle.draw_outlines.specs.Outlines.{SideOf, TraceSideOf, UprightOf, Small};
+ghost use Rattle.draw_outlines.specs.Outlines.{Level, SideOf, Small, TraceSideOf, Upright};
 
 use canvas::{Course, Drawn, Heading, Offset, Target};
 use model::Point;
@@ -26,6 +25,14 @@ const SHORTEST_SIDE: usize = 16;
 // both are worked out.
 const SHORTEST_UPRIGHT: usize = 8;
 
+// A side of an outline: n of its pixels from pixel `first` on, along an axis as the course goes, or back.
+#[derive(Clone, Copy)]
+struct Side {
+    pub first: usize,
+    pub n: usize,
+    pub back: bool,
+}
+
 // The outline of a rectangle: its course, and its sides a = |dx| and b = |dy|.
 #[derive(Clone, Copy)]
 pub struct Outline {
@@ -39,13 +46,11 @@ fn outline_length(a: usize, b: usize) -> usize
     requires { (a ≤ 32768) × (b ≤ 32768) }
     ensures { (result ≡ outline_length a b) × (result ≤ a + b + a + b + 1) }
 {
-    if a == 0 {
-        return a + b + 1;
+    if a == 0 || b == 0 {
+        a + b + 1
+    } else {
+        a + b + a + b
     }
-    if b == 0 {
-        return a + b + 1;
-    }
-    a + b + a + b
 }
 
 // Pixel i of the outline: along x, along y, back along x, back along y.
@@ -54,20 +59,19 @@ fn outline_offset(a: usize, b: usize, i: usize) -> Offset
     ensures { (result ≡ outline_at a b i) × (result.x ≤ 32768) × (result.y ≤ 32768) }
 {
     if i <= a {
-        return Offset { x: i, y: 0 };
-    }
-    if i <= a + b {
-        return Offset { x: a, y: i - a };
-    }
-    if i <= a + b + a {
-        return Offset {
+        Offset { x: i, y: 0 }
+    } else if i <= a + b {
+        Offset { x: a, y: i - a }
+    } else if i <= a + b + a {
+        Offset {
             x: a + b + a - i,
             y: b,
-        };
-    }
-    Offset {
-        x: 0,
-        y: a + b + a + b - i,
+        }
+    } else {
+        Offset {
+            x: 0,
+            y: a + b + a + b - i,
+        }
     }
 }
 
@@ -87,193 +91,157 @@ fn dotted(
         (canvas screen.old store.old hits) (canvas screen.new store.new result) }
 {
     let mut seen = hits;
-    let mut k = 0;
-    while k < n {
-        let i = first + k;
+    for i in first..first + n {
         let offset = outline_offset(o.a, o.b, i);
         let source = canvas::pattern_source(t.pen, i);
         seen = canvas::draw_dot(screen, store, t, o.course, offset, source, seen);
-        k += 1;
     }
     seen
 }
 
-// The outline's first side, along x, as a span.
-fn top_side(o: Outline) -> Span
-    requires { Small o }
-    ensures { SideOf o 0 (o.a + 1) result }
-{
-    let from = o.course.from;
-    let x = coordinates::biased(from.x, false, 0);
-    let y = coordinates::biased(from.y, false, 0);
-    Span {
-        x,
-        y,
-        left: o.course.heading.left,
-        count: o.a + 1,
-        index: 0,
-    }
-}
-
-// The outline's third side, back along x, as a span: the corner before it is the second side's.
-fn bottom_side(o: Outline) -> Span
-    requires { Small o × (0 < o.a) }
-    ensures { SideOf o (o.a + o.b + 1) o.a result }
+// A level side as a span.
+fn level_span(o: Outline, s: Side) -> Span
+    requires { Small o × Level o s × (0 < s.n) }
+    ensures { SideOf o s.first s.n result }
 {
     let from = o.course.from;
     let heading = o.course.heading;
-    let x = coordinates::biased(from.x, heading.left, o.a - 1);
-    let y = coordinates::biased(from.y, heading.up, o.b);
-    let index = o.a + o.b + 1;
+    let start = outline_offset(o.a, o.b, s.first);
+    let x = coordinates::biased(from.x, heading.left, start.x);
+    let y = coordinates::biased(from.y, heading.up, start.y);
     Span {
         x,
         y,
-        left: !heading.left,
-        count: o.a,
-        index,
+        left: heading.left != s.back,
+        count: s.n,
+        index: s.first,
     }
 }
 
-// n pixels of a column from (x,y) on, down or up, as a trace.
-fn upright(x: usize, y: usize, up: bool, n: usize, index: usize) -> Trace
-    requires { (x < 131072) × (y < 131072) × (0 < n) × (n ≤ longest_line) × (index < index_end) }
-    ensures { UprightOf x y up n index result }
+// An upright side as a trace.
+fn upright_trace(o: Outline, s: Side) -> Trace
+    requires { Small o × Upright o s × (0 < s.n) }
+    ensures { TraceSideOf o s.first s.n result }
 {
-    let heading = Heading { left: false, up };
-    let axes = Axes {
-        level: false,
-        larger: n - 1,
-        smaller: 0,
-    };
+    let from = o.course.from;
+    let heading = o.course.heading;
+    let start = outline_offset(o.a, o.b, s.first);
+    let x = coordinates::biased(from.x, heading.left, start.x);
+    let y = coordinates::biased(from.y, heading.up, start.y);
     Trace {
         x,
         y,
-        heading,
-        axes,
+        heading: Heading {
+            left: false,
+            up: heading.up != s.back,
+        },
+        axes: Axes {
+            level: false,
+            larger: s.n - 1,
+            smaller: 0,
+        },
         first: 0,
-        index,
+        index: s.first,
     }
 }
 
-// The outline's second side, along y, as a trace: the corner before it is the first side's.
-fn right_side(o: Outline) -> Trace
-    requires { Small o × (0 < o.b) }
-    ensures { TraceSideOf o (o.a + 1) o.b result }
-{
-    let from = o.course.from;
-    let heading = o.course.heading;
-    let x = coordinates::biased(from.x, heading.left, o.a);
-    let y = coordinates::biased(from.y, heading.up, 1);
-    upright(x, y, heading.up, o.b, o.a + 1)
-}
-
-// The outline's last side, back along y, as a trace between two corners that are other sides'.
-fn left_side(o: Outline) -> Trace
-    requires { Small o × (1 < o.b) }
-    ensures { TraceSideOf o (o.a + o.b + 1 + o.a) (o.b - 1) result }
-{
-    let from = o.course.from;
-    let heading = o.course.heading;
-    let x = coordinates::biased(from.x, false, 0);
-    let y = coordinates::biased(from.y, heading.up, o.b - 1);
-    let past = o.a + o.b + 1 + o.a;
-    upright(x, y, !heading.up, o.b - 1, past)
-}
-
-// The first side drawn, as a span if it is long: how many of its pixels are visible.
-fn draw_top(screen: &mut [u8], store: &mut [u8], t: Target, o: Outline) -> usize
-    requires { Ready t (length screen.old) (length store.old) × Small o }
-    ensures { Painted t (listed 0 (o.a + 1) (outline_dot t.pen o))
-        (canvas screen.old store.old 0) (canvas screen.new store.new result) }
-{
-    if o.a < SHORTEST_SIDE {
-        return dotted(screen, store, t, o, 0, o.a + 1, 0);
-    }
-    let side = top_side(o);
-    spans::draw_alone(screen, store, t, side, 0)
-}
-
-// The second side drawn, stamped if it is long: hits and how many of its pixels are visible.
-fn draw_right(screen: &mut [u8], store: &mut [u8], t: Target, o: Outline, hits: usize) -> usize
-    requires { Ready t (length screen.old) (length store.old) × Small o × (hits + longest_span < count_end) }
-    ensures { Painted t (listed (o.a + 1) o.b (outline_dot t.pen o))
-        (canvas screen.old store.old hits) (canvas screen.new store.new result) }
-{
-    if o.b < SHORTEST_UPRIGHT {
-        return dotted(screen, store, t, o, o.a + 1, o.b, hits);
-    }
-    let side = right_side(o);
-    lone_trace(screen, store, t, side, hits)
-}
-
-// The third side drawn, as a span if it is long: hits and how many of its pixels are visible.
-fn draw_bottom(screen: &mut [u8], store: &mut [u8], t: Target, o: Outline, hits: usize) -> usize
-    requires { Ready t (length screen.old) (length store.old) × Small o × (hits + longest_span < count_end) }
-    ensures { Painted t (listed (o.a + o.b + 1) o.a (outline_dot t.pen o))
-        (canvas screen.old store.old hits) (canvas screen.new store.new result) }
-{
-    if o.a < SHORTEST_SIDE {
-        return dotted(screen, store, t, o, o.a + o.b + 1, o.a, hits);
-    }
-    let side = bottom_side(o);
-    spans::draw_alone(screen, store, t, side, hits)
-}
-
-// The last side drawn, stamped if it is long: hits and how many of its pixels are visible.
-fn draw_left(screen: &mut [u8], store: &mut [u8], t: Target, o: Outline, hits: usize) -> usize
-    requires { Ready t (length screen.old) (length store.old) × Small o × (0 < o.b)
+// A level side drawn, as a span if it is long: hits and how many of its pixels are visible.
+fn draw_level(
+    screen: &mut [u8],
+    store: &mut [u8],
+    t: Target,
+    o: Outline,
+    s: Side,
+    hits: usize,
+) -> usize
+    requires { Ready t (length screen.old) (length store.old) × Small o × Level o s
         × (hits + longest_span < count_end) }
-    ensures { Painted t (listed (o.a + o.b + 1 + o.a) (o.b - 1) (outline_dot t.pen o))
+    ensures { Painted t (listed s.first s.n (outline_dot t.pen o))
         (canvas screen.old store.old hits) (canvas screen.new store.new result) }
 {
-    if o.b < SHORTEST_UPRIGHT {
-        return dotted(screen, store, t, o, o.a + o.b + 1 + o.a, o.b - 1, hits);
+    if s.n < SHORTEST_SIDE {
+        dotted(screen, store, t, o, s.first, s.n, hits)
+    } else {
+        spans::draw_alone(screen, store, t, level_span(o, s), hits)
     }
-    let side = left_side(o);
-    lone_trace(screen, store, t, side, hits)
 }
 
-// The first two sides, to the corner across: how many of their pixels are visible.
-fn way_out(screen: &mut [u8], store: &mut [u8], t: Target, o: Outline) -> usize
-    requires { Ready t (length screen.old) (length store.old) × Small o }
-    ensures { Painted t (listed 0 (o.a + o.b + 1) (outline_dot t.pen o))
-        (canvas screen.old store.old 0) (canvas screen.new store.new result) }
-{
-    let hits = draw_top(screen, store, t, o);
-    draw_right(screen, store, t, o, hits)
-}
-
-// The other two sides, without the corner where the outline began: hits and how many of their pixels are visible.
-fn way_back(screen: &mut [u8], store: &mut [u8], t: Target, o: Outline, hits: usize) -> usize
-    requires { Ready t (length screen.old) (length store.old) × Small o × (0 < o.a) × (0 < o.b)
-        × (hits + longest_outline < count_end) }
-    ensures { Painted t (listed (o.a + o.b + 1) (o.a + o.b - 1) (outline_dot t.pen o))
+// An upright side drawn, stamped if it is long: hits and how many of its pixels are visible.
+fn draw_upright(
+    screen: &mut [u8],
+    store: &mut [u8],
+    t: Target,
+    o: Outline,
+    s: Side,
+    hits: usize,
+) -> usize
+    requires { Ready t (length screen.old) (length store.old) × Small o × Upright o s
+        × (hits + longest_span < count_end) }
+    ensures { Painted t (listed s.first s.n (outline_dot t.pen o))
         (canvas screen.old store.old hits) (canvas screen.new store.new result) }
 {
-    let seen = draw_bottom(screen, store, t, o, hits);
-    draw_left(screen, store, t, o, seen)
+    if s.n < SHORTEST_UPRIGHT {
+        dotted(screen, store, t, o, s.first, s.n, hits)
+    } else {
+        lone_trace(screen, store, t, upright_trace(o, s), hits)
+    }
 }
 
-// The whole outline, dot by dot if it is small and else by its sides: how many of its pixels are visible.
+// A level side and the upright one after it: hits and how many of their pixels are visible.
+fn draw_sides(
+    screen: &mut [u8],
+    store: &mut [u8],
+    t: Target,
+    o: Outline,
+    level: Side,
+    upright: Side,
+    hits: usize,
+) -> usize
+    requires { Ready t (length screen.old) (length store.old) × Small o × Level o level × Upright o upright
+        × (level.first + level.n ≡ upright.first) × (hits + longest_outline < count_end) }
+    ensures { Painted t (listed level.first (level.n + upright.n) (outline_dot t.pen o))
+        (canvas screen.old store.old hits) (canvas screen.new store.new result) }
+{
+    let seen = draw_level(screen, store, t, o, level, hits);
+    draw_upright(screen, store, t, o, upright, seen)
+}
+
+// The whole outline, dot by dot if it is small and else by its sides: to the corner across, and back to where it began.
+// A corner is the side's before it. How many of its pixels are visible.
 fn draw_outline(screen: &mut [u8], store: &mut [u8], t: Target, o: Outline) -> usize
     requires { Ready t (length screen.old) (length store.old) × Small o }
     ensures { Painted t (listed 0 (outline_length o.a o.b) (outline_dot t.pen o))
         (canvas screen.old store.old 0) (canvas screen.new store.new result) }
 {
-    if o.a < SHORTEST_SIDE {
-        if o.b < SHORTEST_UPRIGHT {
-            let n = outline_length(o.a, o.b);
-            return dotted(screen, store, t, o, 0, n, 0);
-        }
+    if o.a < SHORTEST_SIDE && o.b < SHORTEST_UPRIGHT {
+        let n = outline_length(o.a, o.b);
+        return dotted(screen, store, t, o, 0, n, 0);
     }
-    let hits = way_out(screen, store, t, o);
-    if o.a == 0 {
+    let top = Side {
+        first: 0,
+        n: o.a + 1,
+        back: false,
+    };
+    let right = Side {
+        first: o.a + 1,
+        n: o.b,
+        back: false,
+    };
+    let hits = draw_sides(screen, store, t, o, top, right, 0);
+    if o.a == 0 || o.b == 0 {
         return hits;
     }
-    if o.b == 0 {
-        return hits;
-    }
-    way_back(screen, store, t, o, hits)
+    let bottom = Side {
+        first: o.a + o.b + 1,
+        n: o.a,
+        back: true,
+    };
+    let left = Side {
+        first: o.a + o.b + 1 + o.a,
+        n: o.b - 1,
+        back: true,
+    };
+    draw_sides(screen, store, t, o, bottom, left, hits)
 }
 
 // RECT by (dx,dy): the position stays.

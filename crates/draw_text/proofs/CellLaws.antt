@@ -1,6 +1,7 @@
 -- Cells as dots: a rotation's course leads each cell where the paper says, so that a descriptor's rows are its character's dots. A grid has the same
 -- dots, in another order where rows go along y; and how many dots there are.
-use Rattle.std.proofs.Common.{◌≡◌, ℕ, ◌+◌, ◌-◌, ◌*◌, ◌%◌, ◌^◌, ◌<◌, ◌≤◌, Bool, true, false, cond, eqb, ◌≢◌, List, length, get_or, set, ℤ, pos, ◌+ℤ◌, ◌-ℤ◌, neg_ℤ, sym, ap, ◌∙◌, ap₂, arith, get_or-set_other, get_or-set_same, lt-ltb, eqb-true}
+use Rattle.std.proofs.Common.{◌≡◌, ℕ, ◌+◌, ◌-◌, ◌*◌, ◌%◌, ◌^◌, ◌<◌, ◌≤◌, Bool, true, false, cond, eqb, ◌≢◌, List, length, get_or, set, ℤ, pos, ◌+ℤ◌}
+use Rattle.std.proofs.Common.{◌-ℤ◌, neg_ℤ, sym, ap, ◌∙◌, ap₂, arith, get_or-set_other, get_or-set_same, lt-ltb, eqb-true}
 use native.Mathlib.Decide.{ℕ_discrete}
 use borrow.Author.Tests.{eqb-false}
 use lib.IntN.{+ℤ_comm, +ℤ-neg_ℤ_cancel, neg_ℤ-neg_ℤ}
@@ -16,6 +17,7 @@ use Rattle.model.proofs.Decisions.{split, cond_true, cond_false}
 use Rattle.model.proofs.DotLaws.{listed_cong, joined_cong}
 use Rattle.raster.proofs.BitLaws.{bit_mod, bit_shl}
 use Rattle.coordinates.specs.Offsets.{directed}
+use Rattle.grids.specs.Grids.{Transposed}
 use Rattle.canvas.specs.declared.Target.{Target}
 use Rattle.canvas.specs.Canvas.{canvas, painted_all}
 use Rattle.canvas.specs.Targets.{Ready, place_on}
@@ -36,7 +38,6 @@ use Rattle.draw_text.specs.Cells.{
   grid_dots,
   CellsOf,
   StoredCells,
-  TurnedIf,
   GridOf,
   GridFits,
 }
@@ -98,18 +99,19 @@ cells_are x width h = record {
       ap (bit (x * 2 ^ (16 - width) % 2 ^ 32 % 2 ^ 16)) e ∙ shifted_bit x (16 - width) (width - 1 - i) (omega arith) (omega arith);
 }
 
-pub stored_none : (store : List ℕ) (a width : ℕ) (cells : List ℕ) → StoredCells store a width 0 cells
-stored_none store a width cells = record { row = λ j l. absurd (omega arith) }
-
-pub stored_next : (store : List ℕ) (a width n : ℕ) (cells : List ℕ) (v : ℕ) → StoredCells store a width n cells → CellsOf (word_at store (a + 2 + 2 * n)) width v
-    → n < length cells → StoredCells store a width (n + 1) (set cells n v)
+pub stored_next : (store : List ℕ) (a width n : ℕ) (cells : List ℕ) (v : ℕ) → StoredCells store a width n cells
+    → CellsOf (word_at store (a + 2 + 2 * n)) width v → n < length cells → StoredCells store a width (n + 1) (set cells n v)
 stored_next store a width n cells v s r h = record { row = λ j l. at j l (ℕ_discrete j n) }
   where
     at : (j : ℕ) → j < n + 1 → Dec (j ≡ n) → CellsOf (word_at store (a + 2 + 2 * j)) width (get_or (set cells n v) j 0)
     at j l (yes e) = rw (e, get_or-set_same cells n v 0 h) r
     at j l (no d) = rw (get_or-set_other cells n j v 0 d) (s.row j (omega arith))
 
--- rows as they are stored, turned where they go along y
+-- rows as they are stored, and turned where they go along y
+abbrev pub TurnedIf : Bool → List ℕ → List ℕ → Type 0
+TurnedIf false cells r = r ≡ cells
+TurnedIf true cells r = Transposed cells r
+
 pub grid_is : (sideways : Bool) {store stored turned : List ℕ} {a head wide tall w h : ℕ} → wide ≡ width_of head → tall ≡ height_of head → wide ≤ 16 → tall ≤ 16
     → StoredCells store a wide tall stored → TurnedIf sideways stored turned → w ≡ cond sideways tall wide → h ≡ cond sideways wide tall
     → GridOf store sideways a head (record { cells = turned; width = w; height = h })

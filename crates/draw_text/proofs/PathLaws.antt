@@ -41,3 +41,6 @@ module _ (p : Point) where
     where
       back : wrap (neg_ℤ d) ≡ wrap (neg_ℤ e)
       back = wrap_neg d ∙ ap (λ (n : ℕ). (65536 - n) % 65536) q ∙ sym (wrap_neg e)
+
+-- what a step of the path is proved by
+pub ruleset moves = (wrap_back, moved_pattern)

@@ -1,6 +1,8 @@
 -- Rows of a grid are short spans: their dots are the spans', drawn with another pattern and CHAR's transparency. The rows in the clip, drawn
 -- one after the other, are all that is seen of a grid.
-use Rattle.std.proofs.Common.{◌≡◌, ℕ, zero, suc, ◌+◌, ◌-◌, ◌*◌, ◌%◌, ◌^◌, ◌<◌, ◌≤◌, Bool, true, false, cond, ◌&&◌, ltb, leb, ◌⊎◌, List, [], ◌∷◌, ◌++◌, length, get_or, ℤ, pos, negsuc, ◌+ℤ◌, sym, refl, ap, ◌∙◌, subst, ap₂, inl, inr, append_assoc, add_assoc, mul-le-mul_right, mul_comm, mul-le-mul_left, zero-add, arith}
+use Rattle.std.proofs.Common.{◌≡◌, ℕ, zero, suc, ◌+◌, ◌-◌, ◌*◌, ◌%◌, ◌^◌, ◌<◌, ◌≤◌, Bool, true, false, cond, ◌&&◌, ltb, leb, ◌⊎◌, List, [], ◌∷◌, ◌++◌}
+use Rattle.std.proofs.Common.{length, get_or, ℤ, pos, negsuc, ◌+ℤ◌, sym, refl, ap, ◌∙◌, ap₂, inl, inr, append_assoc, add_assoc}
+use Rattle.std.proofs.Common.{mul-le-mul_right, mul_comm, mul-le-mul_left, zero-add, arith}
 use native.Mathlib.Decide.{dec_lt}
 use lib.IntN.{+ℤ_idl}
 use Rattle.model.specs.Ranges.{listed, joined}
@@ -315,10 +317,6 @@ lowest : (up : Bool) (y first second j : ℕ) → first ≤ j → j < second
 lowest true y first second j a b = omega arith
 lowest false y first second j a b = omega arith
 
-pub lowest_in : (up : Bool) (first second : ℕ) → first < second → (first ≤ cond up first (second - 1)) × (cond up first (second - 1) < second)
-lowest_in true first second h = (omega arith, h)
-lowest_in false first second h = (omega arith, omega arith)
-
 -- room for the lowest row is room for all
 pub rows_roomy : (t : Target) (style : CellStyle) (plan : RowPlan) (f : Edges) (n : ℕ) → style.course.from.y < 65536 → f.second ≤ 16 → f.first < f.second
     → RoomFor plan.stencil (row_start t style.course (cond style.course.heading.up f.first (f.second - 1))) n → RowsRoomy t style plan f n
@@ -425,10 +423,6 @@ alone {t} a b n r e = record {
   south = r.south;
   table = r.table;
 }
-
--- .. and so the rows have room there
-pub roomy_here : {t : Target} {style : CellStyle} {plan : RowPlan} {f : Edges} (m n : ℕ) → RowsRoomy t style plan f m → m ≡ n → RowsRoomy t style plan f n
-roomy_here {t} {style} {plan} {f} m n r e = subst (RowsRoomy t style plan f) e r
 
 -- ## Rows with no visible cell
 

@@ -1,6 +1,7 @@
 -- Cells as dots: rotation as a course with a choice of axis, and all cells of a descriptor. A grid: the same cells as
 -- rows along x, whatever the rotation, a word each.
-use Rattle.std.specs.Prelude.{◌≡◌, ℕ, ◌+◌, ◌-◌, ◌*◌, ◌<◌, ◌≤◌, Bool, true, false, cond, ◌||◌, List, length, ◌==◌, nat_lt, slice_index}
+use Rattle.std.specs.Prelude.{◌≡◌, ℕ, ◌+◌, ◌-◌, ◌*◌, ◌<◌, ◌≤◌, Bool, cond, ◌||◌, ◌==◌, nat_lt}
+use Rattle.std.specs.Prelude.{List, length, slice_index}
 use Rattle.model.specs.Ranges.{listed, joined}
 use Rattle.model.specs.Words.{bit, word_at}
 use Rattle.model.specs.declared.Point.{Point}
@@ -13,7 +14,6 @@ use Rattle.canvas.specs.declared.Offset.{Offset}
 use Rattle.canvas.specs.Canvas.{count_end, Reach}
 use Rattle.canvas.specs.Targets.{Ready, place_on}
 use Rattle.fault_text.specs.Reading.{descriptor_bytes}
-use Rattle.grids.specs.Grids.{Transposed}
 use Rattle.draw_text.specs.declared.cells.CellStyle.{CellStyle}
 use Rattle.draw_text.specs.declared.cells.CellRow.{CellRow}
 use Rattle.draw_text.specs.declared.cells.Grid.{Grid}
@@ -106,11 +106,6 @@ pub record CellsOf (word width cells : ℕ) : Type 0 where
 
 pub record StoredCells (store : List ℕ) (a width height : ℕ) (cells : List ℕ) : Type 0 where
   pub row : (j : ℕ) → j < height → CellsOf (word_at store (a + 2 + 2 * j)) width (slice_index cells j)
-
--- rows and columns exchanged where rows go along y
-abbrev pub TurnedIf : Bool → List ℕ → List ℕ → Type 0
-TurnedIf false cells r = r ≡ cells
-TurnedIf true cells r = Transposed cells r
 
 -- cell (i,j) of the character is the grid's at the same offset from the position
 pub record GridOf (store : List ℕ) (sideways : Bool) (a head : ℕ) (g : Grid) : Type 0 where

@@ -10,7 +10,6 @@ ghost use Rattle.draw_text.specs.Cells.{
   most_cells,
   CellsOf,
   StoredCells,
-  TurnedIf,
   GridOf,
   GridFits,
   RowFits,
@@ -80,38 +79,34 @@ fn stored_cells(store: &[u8], at: usize, width: usize, height: usize) -> [u16; 1
     requires { (width ≤ most_columns) × (height ≤ most_rows) × (at + 2 + 2 * height ≤ length store.now) }
     ensures { StoredCells store.now at width height result }
 {
-    let mut cells = [0u16; 16];
-    let mut number = 0;
-    while number < height {
+    let mut cells = [0; 16];
+    for number in 0..height {
         let bits = words::word(store, at + 2 + 2 * number);
         cells[number] = cells_of(bits, width);
-        number += 1;
     }
     cells
 }
 
-// Rows and columns exchanged where rows go along y.
-fn turned_if(sideways: bool, cells: [u16; 16]) -> [u16; 16]
-    ensures { TurnedIf sideways cells result }
-{
-    if sideways {
-        return grids::transposed(cells);
-    }
-    cells
-}
-
-// The grid of the character whose descriptor stands at an address and begins with the word `head`.
+// The grid of the character whose descriptor stands at an address and begins with the word `head`: rows and columns
+// are exchanged where rows go along y.
 pub fn grid_of(store: &[u8], sideways: bool, at: usize, head: u16) -> Grid
     requires { at + 2 + 2 * height_of head ≤ length store.now }
     ensures { GridOf store.now sideways at head result }
 {
     let width = width_of(head);
     let height = height_of(head);
-    let cells = turned_if(sideways, stored_cells(store, at, width, height));
+    let cells = stored_cells(store, at, width, height);
+    if sideways {
+        return Grid {
+            cells: grids::transposed(cells),
+            width: height,
+            height: width,
+        };
+    }
     Grid {
         cells,
-        width: words::either(sideways, height, width),
-        height: words::either(sideways, width, height),
+        width,
+        height,
     }
 }
 
@@ -130,20 +125,15 @@ fn row_by_dots(
     ensures { Painted t (row_dots t.pen style row)
         (canvas screen.old store.old hits) (canvas screen.new store.new result) }
 {
-    let width = row.width;
-    let course = style.course;
-    let pen = t.pen;
     let mut seen = hits;
-    let mut i = 0;
-    while i < width {
+    for i in 0..row.width {
         let on = words::bit_of(row.cells, 15 - i);
-        let source = canvas::pen_source(pen, style.transparent, on);
+        let source = canvas::pen_source(t.pen, style.transparent, on);
         let o = Offset {
             x: i,
             y: row.number,
         };
-        seen = canvas::draw_dot(screen, store, t, course, o, source, seen);
-        i += 1;
+        seen = canvas::draw_dot(screen, store, t, style.course, o, source, seen);
     }
     seen
 }
@@ -161,17 +151,14 @@ pub fn grid_by_dots(
     ensures { Painted t (grid_dots t.pen style g)
         (canvas screen.old store.old hits) (canvas screen.new store.new result) }
 {
-    let cells = g.cells;
     let mut seen = hits;
-    let mut number = 0;
-    while number < g.height {
+    for number in 0..g.height {
         let row = CellRow {
             number,
             width: g.width,
-            cells: cells[number],
+            cells: g.cells[number],
         };
         seen = row_by_dots(screen, store, t, style, row, seen);
-        number += 1;
     }
     seen
 }

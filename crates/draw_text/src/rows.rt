@@ -49,12 +49,10 @@ fn aim_at(t: Target, transparent: bool, cells: u16) -> Target
 fn first_span(course: Course, width: usize) -> Span
     ensures { FirstSpan course width result }
 {
-    let from = course.from;
-    let heading = course.heading;
     Span {
-        x: biased(from.x, false, 0),
-        y: biased(from.y, false, 0),
-        left: heading.left,
+        x: biased(course.from.x, false, 0),
+        y: biased(course.from.y, false, 0),
+        left: course.heading.left,
         count: width,
         index: 0,
     }
@@ -82,15 +80,13 @@ fn met_rows(left: bool, cells: [u16; 16]) -> [u16; 16]
 }
 
 // The byte at which a row begins.
+#[tactic(auto, using(crate::proofs::RowLaws::row_sized))]
 fn row_byte(t: Target, course: Course, number: usize) -> usize
     requires { RowInside t course number }
     ensures { result ≡ row_start t course number }
 {
-    let from = course.from;
-    let heading = course.heading;
-    let area = t.area;
-    let u = area.surface;
-    let y = biased(from.y, heading.up, number);
+    let u = t.area.surface;
+    let y = biased(course.from.y, course.heading.up, number);
     u.base + 2 * (u.words * (u.top + (y - 65536)))
 }
 
@@ -100,11 +96,10 @@ fn roomy(t: Target, style: CellStyle, plan: RowPlan, f: Edges, bytes: usize) -> 
     requires { Ready t bytes bytes × RowsPlanned t style plan f }
     ensures { result ≡ true → RowsRoomy t style plan f bytes }
 {
-    let course = style.course;
-    let heading = course.heading;
     let s = plan.stencil;
-    let lowest = words::either(heading.up, f.first, f.second - 1);
-    row_byte(t, course, lowest) + 2 * s.word + 8 * ((s.end + 63) / 64) <= bytes
+    let up = style.course.heading.up;
+    let lowest = if up { f.first } else { f.second - 1 };
+    row_byte(t, style.course, lowest) + 2 * s.word + 8 * ((s.end + 63) / 64) <= bytes
 }
 
 // Rows drawn in the buffer that holds the bitmap.
@@ -113,11 +108,9 @@ fn draw_rows(buf: &mut [u8], t: Target, style: CellStyle, plan: RowPlan, f: Edge
         × RowsRoomy t style plan f (length buf.old) }
     ensures { RowsDrawn t style plan f met buf.old buf.new }
 {
-    let mut number = f.first;
-    while number < f.second {
+    for number in f.first..f.second {
         let row = row_byte(t, style.course, number);
         draw_cells(buf, plan.stencil, row, met[number]);
-        number += 1;
     }
 }
 
@@ -136,15 +129,13 @@ pub fn draw_grid(
 {
     let clip = t.clip;
     let area = t.area;
-    let course = style.course;
-    let heading = course.heading;
-    let cells = g.cells;
-    let span = first_span(course, g.width);
+    let span = first_span(style.course, g.width);
     let edges = coordinates::edges_between(span.x, span.left, span.count, clip.xmin, clip.xmax);
     if edges.first == edges.second {
         return hits;
     }
-    let f = coordinates::edges_between(span.y, heading.up, g.height, clip.ymin, clip.ymax);
+    let up = style.course.heading.up;
+    let f = coordinates::edges_between(span.y, up, g.height, clip.ymin, clip.ymax);
     if f.first == f.second {
         return hits;
     }
@@ -154,13 +145,18 @@ pub fn draw_grid(
         edges,
         stencil,
     };
-    let seen = hits + seen_in(cells, style.transparent, edges, f);
+    let seen = hits + seen_in(g.cells, style.transparent, edges, f);
     if t.picking {
         return seen;
     }
-    let bytes = words::either(area.onscreen, screen.len(), store.len());
+    let bytes = if area.onscreen {
+        screen.len()
+    } else {
+        store.len()
+    };
     if roomy(t, style, plan, f, bytes) {
-        let met = met_rows(span.left, cells);
+        let met = met_rows(span.left, g.cells);
+        // Two calls and not one on a chosen buffer: a borrow that a test chooses has no generated proof.
         if area.onscreen {
             draw_rows(screen, t, style, plan, f, met);
         } else {

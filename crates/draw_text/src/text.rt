@@ -67,18 +67,14 @@ pub fn draw_string(
         (listed 0 c.count (descriptor text.font store.old c.string)))
         (canvas screen.old store.old 0) result screen.new store.new }
 {
-    let font = text.font;
-    let n = c.count as usize;
     let mut d = Drawn {
         position: from,
         trap: false,
         hits: 0,
     };
-    let mut k = 0;
-    while k < n {
-        let at = descriptor_of(store, font, c.string, k);
+    for k in 0..c.count as usize {
+        let at = descriptor_of(store, text.font, c.string, k);
         d = character(screen, store, t, text, c.transparent, d, at);
-        k += 1;
     }
     d
 }

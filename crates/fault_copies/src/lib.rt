@@ -59,10 +59,8 @@ fn rows_touch(active: Bitmap, s: Surface, b: Block) -> bool
     let last = word_of(s.bits, x + b.dx as usize);
     let size = 2 * (last + 1 - first);
     let mut found = false;
-    let mut j = 0;
-    while j < dy + 1 {
+    for j in 0..dy + 1 {
         found = row_touches(active, s, y + j, first, size) | found;
-        j += 1;
     }
     found
 }
@@ -75,16 +73,7 @@ pub fn sharing(active: Bitmap, source: Bitmap, s: Surface, b: Block) -> bool
 {
     match source {
         Bitmap::Absent => false,
-        Bitmap::Pane {
-            xmax: _,
-            ymax: _,
-            bits: _,
-        } => bitmaps::is_pane(active),
-        Bitmap::Store {
-            address: _,
-            xmax: _,
-            ymax: _,
-            bits: _,
-        } => rows_touch(active, s, b),
+        Bitmap::Pane { .. } => bitmaps::is_pane(active),
+        Bitmap::Store { .. } => rows_touch(active, s, b),
     }
 }

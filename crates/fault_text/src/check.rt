@@ -15,11 +15,9 @@ fn offsets_bad(store: &[u8], r: Row, active: Bitmap, base: u32, string: usize, n
     ensures { result ≡ offsets_bad r active store.now base string n }
 {
     let mut bad = false;
-    let mut k = 0;
-    while k < n {
+    for k in 0..n {
         let at = offset_at(store, base, string + k);
         bad = array_bad(r, active, at, 2) | bad;
-        k += 1;
     }
     bad
 }
@@ -76,11 +74,9 @@ fn descriptors_bad(
 {
     let n = count as usize;
     let mut bad = false;
-    let mut k = 0;
-    while k < n {
+    for k in 0..n {
         let at = descriptor_of(store, font, string, k);
         bad = descriptor_bad(store, r, active, at) | bad;
-        k += 1;
     }
     bad
 }

@@ -4,20 +4,20 @@ ghost use Rattle.model.specs.Glyphs.{base_of, offset_word, descriptor, height_of
 ghost use Rattle.fault_text.specs.Reading.{Spelt};
 
 use model::Font;
-use words::{wide_byte, wide_word, word};
+use words::word;
 
 // The rows that a descriptor's first word gives.
 pub fn height_of(head: u16) -> usize
     ensures { (result ≡ height_of head) × (result ≤ 16) }
 {
-    wide_word(head) / 256 % 16 + 1
+    usize::from(head) / 256 % 16 + 1
 }
 
 // The columns that a descriptor's first word gives.
 pub fn width_of(head: u16) -> usize
     ensures { (result ≡ width_of head) × (result ≤ 16) }
 {
-    wide_word(head) % 16 + 1
+    usize::from(head) % 16 + 1
 }
 
 // The address of the offset word that the code at a byte of the store names.
@@ -25,7 +25,7 @@ pub fn offset_at(store: &[u8], base: u32, at: usize) -> usize
     requires { at < length store.now }
     ensures { (result ≡ offset_word base (get_or store.now at 0)) × (result ≤ base + 510) }
 {
-    let code = wide_byte(store[at]);
+    let code = usize::from(store[at]);
     base as usize + 2 * code
 }
 
@@ -33,8 +33,7 @@ pub fn offset_at(store: &[u8], base: u32, at: usize) -> usize
 fn named(base: u32, selector: u16) -> usize
     ensures { (result ≡ base + 2 * selector) × (result ≤ base + 131070) }
 {
-    let v = wide_word(selector);
-    base as usize + 2 * v
+    base as usize + 2 * usize::from(selector)
 }
 
 // The address of the descriptor of character k of a string; 0 without a font.

@@ -3,6 +3,7 @@ use mathlib.Core.Path.{◌≡◌, refl, sym, ap, ◌∙◌}
 use mathlib.Core.Logic.{◌⊎◌, inl, inr}
 use mathlib.Core.List.{List}
 use Prim.Native.Nat.{ℕ, zero, suc, ◌+◌, ◌-◌, ◌*◌, ◌/◌, ◌%◌, ◌^◌, ◌≤◌, ◌<◌}
+use native.Mathlib.Nat.{mul-le-mul_left}
 use native.Mathlib.Omega.{arith}
 use native.Mathlib.Decide.{dec_lt}
 use lib.ListN.{length, get_or, set, length-set}
@@ -12,7 +13,8 @@ use Rattle.model.proofs.BitLaws.{bit_shr}
 use Rattle.raster.proofs.BitLaws.{bit_mod, bit_shl}
 use Rattle.strips.specs.Strokes.{shown, pattern_on}
 use Rattle.strips.proofs.BitParts.{bit_low, bit_high, bit_beyond}
-use Rattle.strips.proofs.HitLaws.{shown_add, shown_none, shown_cong, shown_from, shown_le}
+use Rattle.strips.proofs.HitLaws.{shown_add, shown_none, shown_cong, shown_from}
+pub use Rattle.strips.proofs.HitLaws.{shown_le}
 use Rattle.grids.specs.Grids.{ones_in, grid_bit, FourRows, WithRows}
 
 -- ## The 1s of rows
@@ -22,6 +24,10 @@ pub ones_in_most : (rows : List ℕ) (i m n j : ℕ) → ones_in rows i m j n �
 unfolding ones_in
 ones_in_most rows i m zero j = omega arith
 ones_in_most rows i m (suc n) j = omega (arith, shown_le (pattern_on (get_or rows j 0)) m i, ones_in_most rows i m n (suc j))
+
+-- .. so sixteen rows have few enough
+pub ones_in_few : (rows : List ℕ) (i m j n : ℕ) → m ≤ 16 → n ≤ 16 → ones_in rows i m j n ≤ 256
+ones_in_few rows i m j n h k = omega (arith, ones_in_most rows i m n j, mul-le-mul_left n h)
 
 -- one row more at the end
 pub ones_in_last : (rows : List ℕ) (i m n j : ℕ)
@@ -37,6 +43,16 @@ ones_in_last rows i m (suc n) j =
     let z : x + ones_in rows i m (suc j) (suc n) ≡ x + ones_in rows i m (suc j) n + shown (pattern_on (get_or rows (suc j + n) 0)) i m
     = omega (arith, ones_in_last rows i m n (suc j)) in
     rw e z
+
+-- .. of rows j to k - 1
+pub ones_in_next : (rows : List ℕ) (i m j k : ℕ) → j ≤ k
+    → ones_in rows i m j (k + 1 - j) ≡ ones_in rows i m j (k - j) + shown (pattern_on (get_or rows k 0)) i m
+ones_in_next rows i m j k h =
+    let e : k + 1 - j ≡ suc (k - j) = omega arith in
+    let z : j + (k - j) ≡ k = omega arith in
+    rw e (rw z at (ones_in_last rows i m (k - j) j))
+
+pub ruleset counts = (shown_le, ones_in_most, ones_in_few, ones_in_next)
 
 -- a row's n cells from cell `hidden` on, shifted to the low end
 pub cells_shown : (row hidden n : ℕ) → hidden + n ≤ 16
@@ -92,9 +108,6 @@ four_sum a b c d = a + b * 2 ^ 16 % 2 ^ 64 + c * 2 ^ 32 % 2 ^ 64 + d * 2 ^ 48 % 
 module _ (a b c d : ℕ) (h : a < 2 ^ 16) (k : b < 2 ^ 16) (l : c < 2 ^ 16) (m : d < 2 ^ 16) where
   four_nested : four_sum a b c d ≡ a + 2 ^ 16 * (b + 2 ^ 16 * (c + 2 ^ 16 * (d + 2 ^ 16 * 0)))
   four_nested = omega arith
-
-  pub four_fits : four_sum a b c d < 2 ^ 64
-  four_fits = rw four_nested (omega arith)
 
 pub four_rows : (rows : List ℕ) → ((j : ℕ) → get_or rows j 0 < 2 ^ 16) → (w : ℕ)
     → FourRows rows w (four_sum (get_or rows (4 * w) 0) (get_or rows (4 * w + 1) 0) (get_or rows (4 * w + 2) 0) (get_or rows (4 * w + 3) 0))

@@ -8,6 +8,7 @@ ghost use Rattle.grids.specs.Grids.{Transposed, Mirrored, ones_in};
 ghost use Rattle.grids.specs.Grids.{FourRows, WithRows, Exchanged, Turned, Blockwise};
 
 use coordinates::Edges;
+use std::array;
 
 // Four rows each, the first row lowest.
 #[derive(Clone, Copy)]
@@ -17,6 +18,7 @@ pub struct Pair {
 }
 
 // Bits of a where the mask is 1 exchanged with those of b that stand k bits higher.
+#[tactic(auto, using(crate::proofs::TransposeLaws::exchanged_is))]
 fn exchanged(a: u64, b: u64, k: u64, mask: u64) -> Pair
     requires { k < 64 }
     ensures { Exchanged a b k mask result }
@@ -29,6 +31,7 @@ fn exchanged(a: u64, b: u64, k: u64, mask: u64) -> Pair
 }
 
 // .. within four rows, where no bit is exchanged twice.
+#[tactic(auto, using(crate::proofs::TransposeLaws::turned_is))]
 fn turned(q: u64, k: u64, mask: u64) -> u64
     requires { (k < 64) × (bit_and mask (mask * 2 ^ k) ≡ 0) }
     ensures { Turned q k mask result }
@@ -38,6 +41,7 @@ fn turned(q: u64, k: u64, mask: u64) -> u64
 }
 
 // Each four by four cells of four rows transposed: rows 2 apart, then neighbours.
+#[tactic(auto, using(crate::proofs::TransposeLaws::inner_is))]
 fn inner(q: u64) -> u64
     ensures { Blockwise q result }
 {
@@ -93,28 +97,24 @@ pub fn transposed(rows: [u16; 16]) -> [u16; 16]
     with_rows(t, 3, inner(d.second))
 }
 
-// Each row from its other end.
+// Each row from its other end. `map` takes many times as long, since the rows wait in an iterator.
 pub fn mirrored(rows: [u16; 16]) -> [u16; 16]
     ensures { Mirrored rows result }
 {
-    let mut r = rows;
-    let mut j: usize = 0;
-    while j < 16 {
-        r[j] = strips::reversed(rows[j]);
-        j += 1;
-    }
-    r
+    array::from_fn(|j| strips::reversed(rows[j]))
 }
 
 // How many of a row's n cells from cell `hidden` on are 1.
+#[tactic(auto, using(strips::proofs::HitLaws::word_ones, crate::proofs::GridLaws::cells_shown))]
 fn ones_of(row: u16, hidden: usize, n: usize) -> u16
     requires { (0 < n) × (hidden + n ≤ 16) }
     ensures { result ≡ shown (pattern_on row) hidden n }
 {
-    u16::count_ones((row << hidden) >> (16 - n)) as u16
+    ((row << hidden) >> (16 - n)).count_ones() as u16
 }
 
 // How many cells are 1 in columns e.first to below e.second of rows f.first to below f.second.
+#[tactic(auto, using(crate::proofs::GridLaws::counts))]
 pub fn ones_in(rows: [u16; 16], e: Edges, f: Edges) -> usize
     requires { (e.first < e.second) × (e.second ≤ 16) × (f.first ≤ f.second) × (f.second ≤ 16) }
     ensures { result ≡ ones_in rows e.first (e.second - e.first) f.first (f.second - f.first) }
@@ -122,10 +122,8 @@ pub fn ones_in(rows: [u16; 16], e: Edges, f: Edges) -> usize
     let hidden = e.first;
     let n = e.second - e.first;
     let mut total: u16 = 0;
-    let mut j = f.first;
-    while j < f.second {
+    for j in f.first..f.second {
         total += ones_of(rows[j], hidden, n);
-        j += 1;
     }
     total as usize
 }

@@ -3,6 +3,8 @@ use mathlib.Core.Path.{◌≡◌, refl, sym, ap, ◌∙◌}
 use mathlib.Core.Logic.{◌⊎◌, inl, inr, ⊎_elim}
 use mathlib.Core.Bool.{false}
 use mathlib.Core.List.{List}
+use Rattle.std.specs.Prelude.{Ok, Err}
+use Rattle.std.specs.declared.result.Result.{Result}
 use Prim.Native.Nat.{ℕ, zero, suc, ◌%◌, ◌<◌}
 use native.Mathlib.Omega.{arith}
 use borrow.Author.Tests.{leb-false, eqb-true, eqb-false}
@@ -18,9 +20,12 @@ use Rattle.model.specs.declared.Context.{Context}
 use Rattle.model.specs.declared.Command.{Command}
 use Rattle.model.specs.declared.Command.TheVariants as command
 use Rattle.model.specs.declared.Decoded.{Decoded}
-use Rattle.model.specs.declared.Decoded.TheVariants.{Do, End, Fault}
-use Rattle.model.specs.declared.Verdict.TheVariants.{Found}
-use Rattle.model.specs.Numbers.{fault_bitmap, fault_data, fault_call, fault_return, fault_barred, fault_long}
+use Rattle.model.specs.declared.Decoded.TheVariants.{Do, End}
+use Rattle.model.specs.declared.Decoded.TheVariants as decoded
+use Rattle.model.specs.Replies.{Found}
+use Rattle.model.specs.declared.Fault.{Fault}
+use Rattle.model.specs.declared.Fault.TheVariants as fault
+use Rattle.model.specs.Numbers.{fault_bitmap, fault_data, fault_call, fault_return, fault_barred, fault_long, fault_number, fault_met}
 use Rattle.model.specs.Bitmaps.{pane_address, bitmap_of, rule_broken}
 use Rattle.model.specs.Setup.{font_bad}
 use Rattle.model.specs.Commands.{Addressed, font_at, decode}
@@ -32,7 +37,7 @@ use Rattle.model.proofs.Decisions.{split, cond_none, cond_true, cond_false, or_e
 use Rattle.refusals.proofs.GoodLaws.{good_font_of}
 use Rattle.judge.specs.declared.Role.{Role}
 use Rattle.judge.specs.declared.Role.TheVariants as role
-use Rattle.judge.specs.Roles.{role_of, fault_in}
+use Rattle.judge.specs.Roles.{role_of}
 
 -- ## What the walk depends on
 
@@ -52,39 +57,31 @@ context_in s = record { bitmap = s.bitmap; font = s.font; kept = s.returns.count
 -- ## What a command leaves of it
 
 -- a command that is followed
-abbrev pub Followed : Role → Type 0
-Followed (role.Faulty f) = ⊥
-Followed (role.Calls a) = Unit {0}
-Followed role.Returns = Unit {0}
-Followed (role.SetsBitmap xmax ymax b) = Unit {0}
-Followed (role.SetsFont f) = Unit {0}
-Followed role.Plain = Unit {0}
+abbrev pub Followed : Result Role Fault → Type 0
+Followed (Ok v) = Unit {0}
+Followed (Err f) = ⊥
 
-pub followed_none : (x : Role) → Followed x → fault_in x ≡ 0
-followed_none (role.Faulty f) h = absurd h
-followed_none (role.Calls a) h = refl
-followed_none role.Returns h = refl
-followed_none (role.SetsBitmap xmax ymax b) h = refl
-followed_none (role.SetsFont f) h = refl
-followed_none role.Plain h = refl
+pub followed_none : (x : Result Role Fault) → Followed x → fault_met x ≡ 0
+followed_none (Ok v) h = refl
+followed_none (Err f) h = absurd h
 
 -- .. leaves this, by the address after it
-abbrev pub changed : Standing → ℕ → Role → Standing
-changed s next (role.Faulty f) = s
-changed s next (role.Calls a) = record { bitmap = s.bitmap; font = s.font; returns = kept_one s.returns next; pointer = a }
-changed s next role.Returns = record { bitmap = s.bitmap; font = s.font; returns = without_latest s.returns; pointer = latest s.returns }
-changed s next (role.SetsBitmap xmax ymax b) = record { bitmap = bitmap.Pane xmax ymax b; font = s.font; returns = s.returns; pointer = next }
-changed s next (role.SetsFont f) = record { bitmap = s.bitmap; font = f; returns = s.returns; pointer = next }
-changed s next role.Plain = record { bitmap = s.bitmap; font = s.font; returns = s.returns; pointer = next }
+abbrev pub changed : Standing → ℕ → Result Role Fault → Standing
+changed s next (Err f) = s
+changed s next (Ok (role.Calls a)) = record { bitmap = s.bitmap; font = s.font; returns = kept_one s.returns next; pointer = a }
+changed s next (Ok role.Returns) = record { bitmap = s.bitmap; font = s.font; returns = without_latest s.returns; pointer = latest s.returns }
+changed s next (Ok (role.SetsBitmap xmax ymax b)) = record { bitmap = bitmap.Pane xmax ymax b; font = s.font; returns = s.returns; pointer = next }
+changed s next (Ok (role.SetsFont f)) = record { bitmap = s.bitmap; font = f; returns = s.returns; pointer = next }
+changed s next (Ok role.Plain) = record { bitmap = s.bitmap; font = s.font; returns = s.returns; pointer = next }
 
 -- .. and without a fault promises this
-abbrev pub RoleFair : Geometry → Row → ℕ → Role → Type 0
-RoleFair g r n (role.Faulty f) = Unit {0}
-RoleFair g r n (role.Calls a) = n < 8
-RoleFair g r n role.Returns = 0 < n
-RoleFair g r n (role.SetsBitmap xmax ymax b) = rule_broken g r (bitmap.Pane xmax ymax b) ≡ false
-RoleFair g r n (role.SetsFont f) = font_bad f ≡ false
-RoleFair g r n role.Plain = Unit {0}
+abbrev pub RoleFair : Geometry → Row → ℕ → Result Role Fault → Type 0
+RoleFair g r n (Err f) = Unit {0}
+RoleFair g r n (Ok (role.Calls a)) = n < 8
+RoleFair g r n (Ok role.Returns) = 0 < n
+RoleFair g r n (Ok (role.SetsBitmap xmax ymax b)) = rule_broken g r (bitmap.Pane xmax ymax b) ≡ false
+RoleFair g r n (Ok (role.SetsFont f)) = font_bad f ≡ false
+RoleFair g r n (Ok role.Plain) = Unit {0}
 
 -- a bitmap that is not in the store: the walk's never is
 abbrev pub NotStore : Bitmap → Type 0
@@ -92,13 +89,13 @@ NotStore bitmap.Absent = Unit {0}
 NotStore (bitmap.Pane xmax ymax b) = Unit {0}
 NotStore (bitmap.Store a xmax ymax b) = ⊥
 
-pub changed_apart : (s : Standing) (next : ℕ) (x : Role) → NotStore s.bitmap → NotStore (changed s next x).bitmap
-changed_apart s next (role.Faulty f) h = h
-changed_apart s next (role.Calls a) h = h
-changed_apart s next role.Returns h = h
-changed_apart s next (role.SetsBitmap xmax ymax b) h = tt
-changed_apart s next (role.SetsFont f) h = h
-changed_apart s next role.Plain h = h
+pub changed_apart : (s : Standing) (next : ℕ) (x : Result Role Fault) → NotStore s.bitmap → NotStore (changed s next x).bitmap
+changed_apart s next (Err f) h = h
+changed_apart s next (Ok (role.Calls a)) h = h
+changed_apart s next (Ok role.Returns) h = h
+changed_apart s next (Ok (role.SetsBitmap xmax ymax b)) h = tt
+changed_apart s next (Ok (role.SetsFont f)) h = h
+changed_apart s next (Ok role.Plain) h = h
 
 -- ## Every command
 
@@ -116,14 +113,15 @@ module _ (g : Geometry) (r : Row) (p : Pane) (see : ℕ → ℕ → ℕ) (store 
 
   pub record Follows (c : Command) : Type 0 where
     -- followed, or 31
-    pub cases : ((barred_fault c ≡ 0) × Followed (role_of c)) ⊎ ((barred_fault c ≡ fault_barred) × (role_of c ≡ role.Faulty fault_barred))
+    pub cases : ((barred_fault c ≡ 0) × Followed (role_of c)) ⊎ ((barred_fault c ≡ fault_barred) × (role_of c ≡ Err fault.Barred))
     -- followed, it leaves what its role says, whatever the pane shows
     pub stands : Followed (role_of c) → standing_of (left c) ≡ changed (standing_of p) next (role_of c)
     pub unstopped : Unstopped c
     pub fair : Addressed c → fault_of g r (context_of p) store c ≡ 0 → RoleFair g r p.returns.count (role_of c)
 
-  unchanging : {c : Command} → (barred_fault c ≡ 0) × Followed (role_of c) → (Followed (role_of c) → standing_of (left c) ≡ changed (standing_of p) next (role_of c))
-      → Unstopped c → RoleFair g r p.returns.count (role_of c) → Follows c
+  unchanging : {c : Command} → (barred_fault c ≡ 0) × Followed (role_of c)
+      → (Followed (role_of c) → standing_of (left c) ≡ changed (standing_of p) next (role_of c)) → Unstopped c
+      → RoleFair g r p.returns.count (role_of c) → Follows c
   unchanging a b u f = record { cases = inl a; stands = b; unstopped = u; fair = λ h e. f }
 
   pub follows : (c : Command) → Follows c
@@ -178,8 +176,8 @@ module _ (g : Geometry) (r : Row) (p : Pane) (see : ℕ → ℕ → ℕ) (store 
 
 module _ (g : Geometry) (r : Row) (p : Pane) (store : List ℕ) (c : Command) where
   -- the role holds the same fault as the paper's definition
-  pub barred_role : barred_fault c ≡ fault_in (role_of c)
-  barred_role = ⊎_elim (λ k. k.0 ∙ sym (followed_none (role_of c) k.1)) (λ k. k.0 ∙ sym (ap fault_in k.1)) (follows g r p (λ x y. 0) store 0 c).cases
+  pub barred_role : barred_fault c ≡ fault_met (role_of c)
+  barred_role = ⊎_elim (λ k. k.0 ∙ sym (followed_none (role_of c) k.1)) (λ k. k.0 ∙ sym (ap fault_met k.1)) (follows g r p (λ x y. 0) store 0 c).cases
 
 -- a command that the judge finds no fault with is followed, and has no fault of its own
 module _ (g : Geometry) (r : Row) (p : Pane) (store : List ℕ) (c : Command) (e : judged_fault g r (context_of p) store c ≡ 0) where
@@ -199,7 +197,7 @@ module _ (g : Geometry) (r : Row) (store : List ℕ) where
   last_same : (p q : Pane) (d : Decoded) → p.progress.pointer ≡ q.progress.pointer → met_last p d ≡ met_last q d
   unfolding met_last
   last_same p q End e = refl
-  last_same p q (Fault f) e = ap (Found fault_long) e
+  last_same p q (decoded.Fault f) e = ap (Found fault_long) e
   last_same p q (Do c next) e = ap (Found fault_long) e
 
   Steady : ℕ → Type 0
@@ -228,7 +226,7 @@ module _ (g : Geometry) (r : Row) (store : List ℕ) where
     met_same : (d : Decoded) → met g r store (suc n) (λ z. list_walk g r store n z) p d ≡ met g r store (suc n) (λ z. list_walk g r store n z) q d
     unfolding met
     met_same End = refl
-    met_same (Fault f) = λ i. Found f (e i).pointer
+    met_same (decoded.Fault f) = λ i. Found (fault_number f) (e i).pointer
     met_same (Do c next) = command_same c next
 
   pub walk_same : (n : ℕ) (p q : Pane) → standing_of p ≡ standing_of q → list_walk g r store n p ≡ list_walk g r store n q

@@ -3,35 +3,30 @@
 // CALL asks the list judge. Only what faults depend on is carried along, and no pixel is worked out.
 #![tactic(auto)]
 
-ghost use Rattle.std.specs.Prelude.{◌≡◌, length};
-ghost use Rattle.model.specs.declared.Command.TheVariants.{DefBitmap};
+ghost use Rattle.std.specs.Prelude.{◌≡◌, length, IfOk};
+ghost use Rattle.model.specs.Numbers.{fault_met};
+ghost use Rattle.model.specs.Replies.{verdict};
 ghost use Rattle.model.specs.Commands.{Addressed};
 ghost use Rattle.model.specs.Record.{fresh};
 ghost use Rattle.model.specs.Faults.{context_of};
 ghost use Rattle.model.specs.Calls.{started};
 ghost use Rattle.model.specs.Judge.{judged_fault, verdict_of};
 ghost use Rattle.faults.specs.Checking.{Checkable};
-ghost use Rattle.judge.specs.Roles.{role_of, examined_as, fault_in};
-ghost use Rattle.judge.specs.Levels.{with_kept, Judgeable, ListJudged, CommandJudged};
+ghost use Rattle.judge.specs.Roles.{role_of};
+ghost use Rattle.judge.specs.Levels.{Judgeable, ListJudged, CommandJudged};
 
 use bitmaps::PANE_ADDRESS;
 use faults::fault_of;
-use model::{Bitmap, Command, Context, Decoded, Font, Frame, Verdict};
+use model::{Bitmap, Command, Context, Decoded, Fault, Font, FoundFault, Frame};
 use state_commands::settings::font_of;
-
-// "LINK, or a DEF_BITMAP whose address isn't 200000 hex, gets 31".
-const FAULT_BARRED: u8 = 31;
-
-// "anything but an end word after 4,096 commands gets 32".
-const FAULT_LONG: u8 = 32;
 
 // "It walks at most 4,096 commands."
 const MOST_WALKED: u32 = 4096;
 
-// What a command is to the judge: faulty, CALL, RETURN, DEF_BITMAP of the pane, DEF_CHAR_SET, or none of these.
+// What a command that the judge follows is to it: CALL, RETURN, DEF_BITMAP of the pane, DEF_CHAR_SET, or none of
+// these.
 #[derive(Clone, Copy)]
 pub enum Role {
-    Faulty(u8),
     Calls(u32),
     Returns,
     SetsBitmap { xmax: u16, ymax: u16, bits: u16 },
@@ -39,13 +34,12 @@ pub enum Role {
     Plain,
 }
 
-// How a list stops: at an end word, at a RETURN with what it leaves, both with the commands that are left to
-// walk, or at a fault with its address.
+// How a list without a fault stops: at an end word, or at a RETURN with what it leaves, both with the commands that
+// are left to walk.
 #[derive(Clone, Copy)]
 pub enum Stop {
     Ended(u32),
     Returned(Context, u32),
-    Faulty(u8, u32),
 }
 
 // What follows a command in its list: more commands, from an address on, with the commands that are left to
@@ -58,116 +52,44 @@ pub enum Next {
 
 // ---- What a command is to the judge
 
-// DEF_BITMAP: the pane is followed, and nothing else.
-fn bitmap_role(address: u32, xmax: u16, ymax: u16, bits: u16) -> Role
-    ensures { result ≡ role_of (DefBitmap address xmax ymax bits) }
-{
-    if address == PANE_ADDRESS {
-        return Role::SetsBitmap { xmax, ymax, bits };
-    }
-    Role::Faulty(FAULT_BARRED)
-}
-
-// Any command.
-fn role_of(c: Command) -> Role
+// Any command: "LINK, or a DEF_BITMAP whose address isn't 200000 hex, gets 31".
+#[tactic(auto, unfolding(crate::specs::Roles::role_of))]
+fn role_of(c: Command) -> Result<Role, Fault>
     ensures { result ≡ role_of c }
 {
     match c {
-        Command::Link { address: _ } => Role::Faulty(FAULT_BARRED),
-        Command::Nop => Role::Plain,
-        Command::DefTexture {
-            pattern: _,
-            transparent: _,
-        } => Role::Plain,
-        Command::DefCharSet { base, bytes } => Role::SetsFont(font_of(bytes, base)),
-        Command::Call { address } => Role::Calls(address),
-        Command::Return => Role::Returns,
+        Command::Link { .. } => Err(Fault::Barred),
+        Command::DefCharSet { base, bytes } => Ok(Role::SetsFont(font_of(bytes, base))),
+        Command::Call { address } => Ok(Role::Calls(address)),
+        Command::Return => Ok(Role::Returns),
         Command::DefBitmap {
             address,
             xmax,
             ymax,
             bits,
-        } => bitmap_role(address, xmax, ymax, bits),
-        Command::DefColors { fore: _, back: _ } => Role::Plain,
-        Command::DefLogicalOp { mask: _, code: _ } => Role::Plain,
-        Command::EnterPick => Role::Plain,
-        Command::ExitPick => Role::Plain,
-        Command::DefClipRect {
-            xmin: _,
-            ymin: _,
-            xmax: _,
-            ymax: _,
-        } => Role::Plain,
-        Command::DefSpace { spacing: _ } => Role::Plain,
-        Command::DefCharOrient { orientation: _ } => Role::Plain,
-        Command::AbsMov { x: _, y: _ } => Role::Plain,
-        Command::RelMov { dx: _, dy: _ } => Role::Plain,
-        Command::Point { dx: _, dy: _ } => Role::Plain,
-        Command::Line { dx: _, dy: _ } => Role::Plain,
-        Command::Rect { dx: _, dy: _ } => Role::Plain,
-        Command::BitBlt { block: _ } => Role::Plain,
-        Command::Polyline { array: _, count: _ } => Role::Plain,
-        Command::Circle { radius: _ } => Role::Plain,
-        Command::Char {
-            string: _,
-            count: _,
-            transparent: _,
-        } => Role::Plain,
-        Command::BitBltM {
-            address: _,
-            xmax: _,
-            ymax: _,
-            block: _,
-        } => Role::Plain,
-        Command::ScanLines { array: _, count: _ } => Role::Plain,
-    }
-}
-
-// The fault that a role holds, or 0.
-fn fault_in(role: Role) -> u8
-    ensures { result ≡ fault_in role }
-{
-    match role {
-        Role::Faulty(fault) => fault,
-        Role::Calls(_) => 0,
-        Role::Returns => 0,
-        Role::SetsBitmap {
-            xmax: _,
-            ymax: _,
-            bits: _,
-        } => 0,
-        Role::SetsFont(_) => 0,
-        Role::Plain => 0,
+        } => {
+            if address != PANE_ADDRESS {
+                return Err(Fault::Barred);
+            }
+            Ok(Role::SetsBitmap { xmax, ymax, bits })
+        }
+        _ => Ok(Role::Plain),
     }
 }
 
 // A command by itself: its fault, or what it is to the judge.
-fn examine(store: &[u8], f: Frame, x: Context, c: Command) -> Role
+#[tactic(auto, using(crate::proofs::WalkLaws::examined, model::proofs::NumberLaws::fault_some))]
+fn examine(store: &[u8], f: Frame, x: Context, c: Command) -> Result<Role, Fault>
     requires { Checkable f.geometry f.row x (length store.now) × Addressed c }
-    ensures { result ≡ examined_as (judged_fault f.geometry f.row x store.now c) (role_of c) }
+    ensures fault { fault_met result ≡ judged_fault f.geometry f.row x store.now c }
+    ensures role { IfOk result (λ role. role_of c ≡ Ok role) }
 {
-    let role = role_of(c);
-    let barred = fault_in(role);
-    if barred != 0 {
-        return Role::Faulty(barred);
-    }
-    let fault = fault_of(store, f, x, c);
-    if fault != 0 {
-        return Role::Faulty(fault);
-    }
-    role
+    let role = role_of(c)?;
+    fault_of(store, f, x, c)?;
+    Ok(role)
 }
 
 // ---- The two judges
-
-// What a called list begins with, or is left with by RETURN: so many return addresses.
-fn with_kept(x: Context, kept: u8) -> Context
-    ensures { result ≡ with_kept x kept }
-{
-    let bitmap = x.bitmap;
-    let font = x.font;
-    Context { bitmap, font, kept }
-}
 
 // A command of a list: what follows it there, so many commands being left to walk after it.
 #[cycle(judge_command_judge_list)]
@@ -179,52 +101,48 @@ fn judge_command(
     left: u32,
     c: Command,
     next: u32,
-) -> Next
+) -> Result<Next, FoundFault>
     requires { Judgeable f.geometry f.row x (length store.now) × Addressed c }
     ensures { CommandJudged f.geometry f.row store.now x at left c next result }
 {
     match examine(store, f, x, c) {
-        Role::Faulty(fault) => {
-            let found = Stop::Faulty(fault, at);
-            Next::Stops(found)
-        }
-        Role::Calls(address) => {
-            let stop = judge_list(store, f, with_kept(x, x.kept + 1), address, left);
-            let Stop::Returned(y, rest) = stop else {
-                return Next::Stops(stop);
+        Err(fault) => Err(FoundFault { fault, address: at }),
+        Ok(Role::Calls(address)) => {
+            let called = Context {
+                kept: x.kept + 1,
+                ..x
             };
-            Next::On(y, next, rest)
+            match judge_list(store, f, called, address, left)? {
+                Stop::Ended(rest) => Ok(Next::Stops(Stop::Ended(rest))),
+                Stop::Returned(y, rest) => Ok(Next::On(y, next, rest)),
+            }
         }
-        Role::Returns => {
-            let stop = Stop::Returned(with_kept(x, x.kept - 1), left);
-            Next::Stops(stop)
+        Ok(Role::Returns) => {
+            let back = Context {
+                kept: x.kept - 1,
+                ..x
+            };
+            Ok(Next::Stops(Stop::Returned(back, left)))
         }
-        Role::SetsBitmap { xmax, ymax, bits } => {
+        Ok(Role::SetsBitmap { xmax, ymax, bits }) => {
             let bitmap = Bitmap::Pane { xmax, ymax, bits };
-            let font = x.font;
-            let y = Context {
-                bitmap,
-                font,
-                kept: x.kept,
-            };
-            Next::On(y, next, left)
+            Ok(Next::On(Context { bitmap, ..x }, next, left))
         }
-        Role::SetsFont(font) => {
-            let bitmap = x.bitmap;
-            let y = Context {
-                bitmap,
-                font,
-                kept: x.kept,
-            };
-            Next::On(y, next, left)
-        }
-        Role::Plain => Next::On(x, next, left),
+        Ok(Role::SetsFont(font)) => Ok(Next::On(Context { font, ..x }, next, left)),
+        Ok(Role::Plain) => Ok(Next::On(x, next, left)),
     }
 }
 
-// A list from an address on: how it stops, at most so many commands being walked.
+// A list from an address on: how it stops, at most so many commands being walked. "Anything but an end word after
+// 4,096 commands gets 32." The walk goes where the list says, and ends since fewer commands are left.
 #[cycle(judge_command_judge_list)]
-fn judge_list(store: &[u8], f: Frame, begun: Context, from: u32, most: u32) -> Stop
+fn judge_list(
+    store: &[u8],
+    f: Frame,
+    begun: Context,
+    from: u32,
+    most: u32,
+) -> Result<Stop, FoundFault>
     requires { Judgeable f.geometry f.row begun (length store.now) }
     ensures { ListJudged f.geometry f.row store.now begun from most result }
 {
@@ -233,45 +151,35 @@ fn judge_list(store: &[u8], f: Frame, begun: Context, from: u32, most: u32) -> S
     let mut left = most;
     loop {
         match decoder::decode(store, at) {
-            Decoded::End => return Stop::Ended(left),
-            Decoded::Fault(fault) => {
-                if left == 0 {
-                    return Stop::Faulty(FAULT_LONG, at);
-                }
-                return Stop::Faulty(fault, at);
+            Decoded::End => return Ok(Stop::Ended(left)),
+            _ if left == 0 => {
+                return Err(FoundFault {
+                    fault: Fault::Long,
+                    address: at,
+                });
             }
-            Decoded::Do(c, next) => {
-                if left == 0 {
-                    return Stop::Faulty(FAULT_LONG, at);
-                }
-                match judge_command(store, f, x, at, left - 1, c, next) {
-                    Next::On(y, to, rest) => {
-                        x = y;
-                        at = to;
-                        left = rest;
-                    }
-                    Next::Stops(stop) => return stop,
-                }
-            }
+            Decoded::Fault(fault) => return Err(FoundFault { fault, address: at }),
+            Decoded::Do(c, next) => match judge_command(store, f, x, at, left - 1, c, next)? {
+                Next::On(y, to, rest) => (x, at, left) = (y, to, rest),
+                Next::Stops(stop) => return Ok(stop),
+            },
         }
     }
 }
 
-// A list judged from an address on, as from a cleared pane.
-pub fn judge(store: &[u8], f: Frame, address: u32) -> Verdict
+// A list judged from an address on, as from a cleared pane: the number of commands walked, or else the first fault.
+pub fn judge(store: &[u8], f: Frame, address: u32) -> Result<u32, FoundFault>
     requires { Checkable f.geometry f.row (context_of fresh) (length store.now) }
-    ensures { result ≡ verdict_of f.geometry f.row store.now (started fresh address) }
+    ensures { verdict result ≡ verdict_of f.geometry f.row store.now (started fresh address) }
 {
-    let bitmap = Bitmap::Absent;
-    let font = Font::Absent;
     let x = Context {
-        bitmap,
-        font,
+        bitmap: Bitmap::Absent,
+        font: Font::Absent,
         kept: 0,
     };
-    match judge_list(store, f, x, address, MOST_WALKED) {
-        Stop::Ended(left) => Verdict::Clean(MOST_WALKED - left),
-        Stop::Faulty(fault, found) => Verdict::Found(fault, found),
-        Stop::Returned(_, _) => Verdict::Clean(0),
+    match judge_list(store, f, x, address, MOST_WALKED)? {
+        Stop::Ended(left) => Ok(MOST_WALKED - left),
+        // no return address is kept at this level: a RETURN has fault 27
+        Stop::Returned(_, _) => unreachable!(),
     }
 }

@@ -5,8 +5,7 @@ use Prim.Native.Nat.{ℕ}
 use lib.ListN.{length}
 use Rattle.model.specs.Bitmaps.{Geometry, Row}
 use Rattle.model.specs.Record.{fresh}
-use Rattle.model.specs.Judge.{Verdict, list_walk, verdict_of}
-use Rattle.model.specs.declared.Verdict.TheVariants.{Clean, Found}
+use Rattle.model.specs.Judge.{Verdict, Clean, Found, list_walk, verdict_of}
 use Rattle.model.specs.Calls.{started}
 use Rattle.model.proofs.Computing.{machine}
 use Rattle.model.proofs.Listings.{minus, the_pane, nop, halt, link, call, return, def_bitmap, def_clip_rect, word_font, point, circle, char, listing}

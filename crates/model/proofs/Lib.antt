@@ -44,3 +44,4 @@ pub mod StateCases
 pub mod ScissorCases
 pub mod TableCases
 pub mod IgnoredBits
+pub mod NumberLaws

@@ -10,8 +10,8 @@ use Rattle.model.specs.Ranges.{listed, joined}
 use Rattle.model.specs.Coordinates.{coord}
 use Rattle.model.specs.Operations.{new_bit}
 use Rattle.model.specs.Glyphs.{passed}
-use Rattle.model.specs.Commands.{block_of, OpcodeEntry, Decoded, opcode_of, decode}
-use Rattle.model.specs.declared.OpcodeEntry.TheVariants.{Known, Unknown}
+use Rattle.std.specs.Prelude.{is_some}
+use Rattle.model.specs.Commands.{block_of, Decoded, opcode_of, decode}
 use Rattle.model.specs.declared.Command.TheVariants as command
 use Rattle.model.specs.declared.Decoded.TheVariants.{Do}
 use Rattle.model.specs.declared.Font.TheVariants as font
@@ -93,11 +93,7 @@ abbrev listed_in : ℕ → List Entry → Bool
 listed_in op [] = false
 listed_in op (e ∷ es) = eqb op e.op || listed_in op es
 
-abbrev known : OpcodeEntry → Bool
-known (Known op n) = true
-known Unknown = false
-
-pub opcodes_all : listed 0 256 (λ op. known (opcode_of op)) ≡ listed 0 256 (λ op. listed_in op opcodes)
+pub opcodes_all : listed 0 256 (λ op. is_some (opcode_of op)) ≡ listed 0 256 (λ op. listed_in op opcodes)
 unfolding machine
 opcodes_all = refl
 

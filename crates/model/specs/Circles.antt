@@ -17,7 +17,8 @@ on_circle r i j = ltb (j * (j - 1) + i * i) (r * r) && leb (r * r) (j * (j + 1) 
 -- (i,j) mirrored in the axes
 abbrev pub mirrored : ℕ → ℕ → List Place
 mirrored i j =
-    at (pos i) (pos j) ∷ at (neg_ℤ (pos i)) (pos j) ∷ at (pos i) (neg_ℤ (pos j)) ∷ at (neg_ℤ (pos i)) (neg_ℤ (pos j)) ∷ []
+    at (pos i) (pos j) ∷ at (neg_ℤ (pos i)) (pos j) ∷ at (pos i) (neg_ℤ (pos j))
+    ∷ at (neg_ℤ (pos i)) (neg_ℤ (pos j)) ∷ []
 
 -- "all eight reflections of (i,j)"
 unfoldable pub reflections : ℕ → ℕ → List Place

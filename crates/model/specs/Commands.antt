@@ -1,12 +1,12 @@
 -- What stands at the pointer (01, "One command"; opcodes, word order and bit places 003, 2.10.1 to 2.10.33).
 -- "So a decoded command is either a command with its words or a fault."
-use Rattle.std.specs.Prelude.{ℕ, ◌+◌, ◌*◌, ◌/◌, ◌%◌, ◌<◌, List, Bool, cond, ◌&&◌, ◌||◌, ltb, leb, eqb}
-use Rattle.model.specs.Numbers.{fault_opcode, fault_fetch}
+use Rattle.std.specs.Prelude.{ℕ, ◌+◌, ◌*◌, ◌/◌, ◌%◌, ◌<◌, List, Bool, cond, ◌&&◌, ◌||◌, ltb, leb, eqb, Some, None}
+use Rattle.std.specs.declared.option.Option.{Option}
+use Rattle.model.specs.declared.Fault.TheVariants as fault
 use Rattle.model.specs.Words.{word_at, address, address_end}
 pub use Rattle.model.specs.declared.Opcode.{Opcode}
 use Rattle.model.specs.declared.Opcode.TheVariants as opcode
 pub use Rattle.model.specs.declared.OpcodeEntry.{OpcodeEntry}
-use Rattle.model.specs.declared.OpcodeEntry.TheVariants.{Known, Unknown}
 pub use Rattle.model.specs.declared.Block.{Block}
 pub use Rattle.model.specs.declared.Command.{Command}
 use Rattle.model.specs.declared.Command.TheVariants as command
@@ -17,37 +17,41 @@ use Rattle.model.specs.declared.Decoded.TheVariants.{Do, End, Fault}
 abbrev pub from : ℕ → ℕ → ℕ → Bool
 from a e op = leb a op && leb op e
 
+-- a known opcode, with the number of its parameter words
+abbrev pub known : Opcode → ℕ → Option OpcodeEntry
+known op n = Some (record { opcode = op; words = n })
+
 -- the opcodes of 003 that are built, each with its number of parameter words; "Every other opcode is
 -- unknown". 06, 0A and A6, A8 are opaque or word mode, 07, 0B and A7, A9 transparent or byte mode. CIRCLE
 -- "joins the commands" (02, A.1)
-unfoldable pub opcode_of : ℕ → OpcodeEntry
+unfoldable pub opcode_of : ℕ → Option OpcodeEntry
 opcode_of op =
-    cond (eqb op 0x02) (Known opcode.Link 2)
-    (cond (eqb op 0x03) (Known opcode.Nop 0)
-    (cond (from 0x06 0x07 op) (Known (opcode.DefTexture (eqb op 0x07)) 1)
-    (cond (from 0x0A 0x0B op) (Known (opcode.DefCharSet (eqb op 0x0B)) 2)
-    (cond (eqb op 0x0F) (Known opcode.Call 2)
-    (cond (eqb op 0x17) (Known opcode.Return 0)
-    (cond (eqb op 0x1A) (Known opcode.DefBitmap 5)
-    (cond (eqb op 0x3D) (Known opcode.DefColors 2)
-    (cond (eqb op 0x41) (Known opcode.DefLogicalOp 2)
-    (cond (eqb op 0x44) (Known opcode.EnterPick 0)
-    (cond (eqb op 0x45) (Known opcode.ExitPick 0)
-    (cond (eqb op 0x46) (Known opcode.DefClipRect 4)
-    (cond (eqb op 0x4D) (Known opcode.DefSpace 1)
-    (cond (eqb op 0x4E) (Known opcode.DefCharOrient 1)
-    (cond (eqb op 0x4F) (Known opcode.AbsMov 2)
-    (cond (eqb op 0x52) (Known opcode.RelMov 2)
-    (cond (eqb op 0x53) (Known opcode.Point 2)
-    (cond (from 0x54 0x55 op) (Known opcode.Line 2)
-    (cond (eqb op 0x58) (Known opcode.Rect 2)
-    (cond (eqb op 0x64) (Known opcode.BitBlt 4)
-    (cond (eqb op 0x74) (Known opcode.Polyline 3)
-    (cond (eqb op 0x8E) (Known opcode.Circle 1)
-    (cond (from 0xA6 0xA9 op) (Known (opcode.Char (eqb (op % 2) 1)) 3)
-    (cond (eqb op 0xAE) (Known opcode.BitBltM 8)
-    (cond (eqb op 0xBA) (Known opcode.ScanLines 3)
-    Unknown))))))))))))))))))))))))
+    cond (eqb op 0x02) (known opcode.Link 2)
+    (cond (eqb op 0x03) (known opcode.Nop 0)
+    (cond (from 0x06 0x07 op) (known (opcode.DefTexture (eqb op 0x07)) 1)
+    (cond (from 0x0A 0x0B op) (known (opcode.DefCharSet (eqb op 0x0B)) 2)
+    (cond (eqb op 0x0F) (known opcode.Call 2)
+    (cond (eqb op 0x17) (known opcode.Return 0)
+    (cond (eqb op 0x1A) (known opcode.DefBitmap 5)
+    (cond (eqb op 0x3D) (known opcode.DefColors 2)
+    (cond (eqb op 0x41) (known opcode.DefLogicalOp 2)
+    (cond (eqb op 0x44) (known opcode.EnterPick 0)
+    (cond (eqb op 0x45) (known opcode.ExitPick 0)
+    (cond (eqb op 0x46) (known opcode.DefClipRect 4)
+    (cond (eqb op 0x4D) (known opcode.DefSpace 1)
+    (cond (eqb op 0x4E) (known opcode.DefCharOrient 1)
+    (cond (eqb op 0x4F) (known opcode.AbsMov 2)
+    (cond (eqb op 0x52) (known opcode.RelMov 2)
+    (cond (eqb op 0x53) (known opcode.Point 2)
+    (cond (from 0x54 0x55 op) (known opcode.Line 2)
+    (cond (eqb op 0x58) (known opcode.Rect 2)
+    (cond (eqb op 0x64) (known opcode.BitBlt 4)
+    (cond (eqb op 0x74) (known opcode.Polyline 3)
+    (cond (eqb op 0x8E) (known opcode.Circle 1)
+    (cond (from 0xA6 0xA9 op) (known (opcode.Char (eqb (op % 2) 1)) 3)
+    (cond (eqb op 0xAE) (known opcode.BitBltM 8)
+    (cond (eqb op 0xBA) (known opcode.ScanLines 3)
+    None))))))))))))))))))))))))
 
 -- parameter word i, from 0, of the command at an address
 abbrev pub parameter : List ℕ → ℕ → ℕ → ℕ
@@ -101,15 +105,16 @@ abbrev pub Addressed : Command → Type 0
 Addressed c = (a : ℕ) → AddressIn c a → a < address_end
 
 -- "An unknown opcode gives 20. Parameter words outside the store give 21"
-unfoldable pub fetch : ℕ → List ℕ → ℕ → OpcodeEntry → Decoded
-fetch len s at Unknown = Fault fault_opcode
-fetch len s at (Known op n) =
-    cond (ltb len (at + 2 + 2 * n)) (Fault fault_fetch) (Do (command_of op (parameter s at)) (at + 2 + 2 * n))
+unfoldable pub fetch : ℕ → List ℕ → ℕ → Option OpcodeEntry → Decoded
+fetch len s at None = Fault fault.Opcode
+fetch len s at (Some e) =
+    cond (ltb len (at + 2 + 2 * e.words)) (Fault fault.Fetch)
+    (Do (command_of e.opcode (parameter s at)) (at + 2 + 2 * e.words))
 
 -- "A pointer that is odd or whose word is outside the store gives fault 21. Bit 0 (GECL) set, or HALT, makes
 -- status 2" (HALT is any word with bit 0 set); by the store's length and bytes, and the pointer
 unfoldable pub decode : ℕ → List ℕ → ℕ → Decoded
 decode len s at =
-    cond (eqb (at % 2) 1 || ltb len (at + 2)) (Fault fault_fetch)
+    cond (eqb (at % 2) 1 || ltb len (at + 2)) (Fault fault.Fetch)
     (cond (eqb (word_at s at % 2) 1) End
     (fetch len s at (opcode_of (word_at s at / 256))))

@@ -58,7 +58,8 @@ effect_of g r p pixel_of store next command.Return =
 -- "It sets the clip to the whole bitmap"
 effect_of g r p pixel_of store next (command.DefBitmap a xmax ymax b) =
     becomes (with_pointer (with_bitmap_and_clip r p (bitmap_of a xmax ymax b) (whole_clip xmax ymax)) next)
-effect_of g r p pixel_of store next (command.DefColors fore back) = becomes (with_pointer (with_colours p fore back) next)
+effect_of g r p pixel_of store next (command.DefColors fore back) =
+    becomes (with_pointer (with_colours p fore back) next)
 -- "the low four bits of the code count"
 effect_of g r p pixel_of store next (command.DefLogicalOp mask code) =
     becomes (with_pointer (with_operation p (code % 16) mask) next)

@@ -61,7 +61,8 @@ unfoldable pub glyph_dots : Pen → Bool → ℕ → List ℕ → ℕ → Place 
 glyph_dots pen transparent rotation store a p =
     joined 0 (height_of (word_at store a))
     (λ j. listed 0 (width_of (word_at store a))
-    (λ i. dot (rotated rotation p i j) (pen_source pen transparent (cell_bit store a (width_of (word_at store a)) i j))))
+    (λ i. dot (rotated rotation p i j)
+    (pen_source pen transparent (cell_bit store a (width_of (word_at store a)) i j))))
 
 -- "by spacing plus the width, or the height where path and rotation differ by 90 or 270"
 unfoldable pub advance : Text → ℕ → ℤ

@@ -3,7 +3,7 @@
 -- pixel is looked at.
 use Rattle.std.specs.Prelude.{ℕ, zero, suc, ◌-◌, List, cond, eqb}
 use Rattle.model.specs.Ranges.{or_else}
-use Rattle.model.specs.Numbers.{fault_barred, fault_long}
+use Rattle.model.specs.Numbers.{fault_barred, fault_long, fault_number}
 use Rattle.model.specs.Bitmaps.{Geometry, Row, pane_address}
 use Rattle.model.specs.Record.{Pane}
 use Rattle.model.specs.Commands.{Command, Decoded, decode}
@@ -12,8 +12,7 @@ use Rattle.model.specs.declared.Decoded.TheVariants.{Do, End, Fault}
 use Rattle.model.specs.Faults.{Context, context_of, fault_of}
 use Rattle.model.specs.Effects.{effect_of}
 use Rattle.model.specs.Steps.{plan_of}
-pub use Rattle.model.specs.declared.Verdict.{Verdict}
-use Rattle.model.specs.declared.Verdict.TheVariants.{Clean, Found}
+pub use Rattle.model.specs.Replies.{Verdict, Clean, Found}
 
 -- ## A command
 
@@ -66,7 +65,7 @@ judged_command g r store on p c next =
 -- what stands at the pointer, where n commands are left to walk
 unfoldable pub met : Geometry → Row → List ℕ → ℕ → (Pane → Verdict) → Pane → Decoded → Verdict
 met g r store n on p End = Clean n
-met g r store n on p (Fault f) = Found f p.progress.pointer
+met g r store n on p (Fault f) = Found (fault_number f) p.progress.pointer
 met g r store n on p (Do c next) = judged_command g r store on p c next
 
 -- .. and where none is left: "anything but an end word after 4,096 commands gets 32, ahead of its own faults

@@ -1,5 +1,10 @@
 -- The paper's numbers for statuses, faults and refusals, each once.
-use Rattle.std.specs.Prelude.{ℕ}
+use Rattle.std.specs.Prelude.{ℕ, Ok, Err}
+use Rattle.std.specs.declared.result.Result.{Result}
+pub use Rattle.model.specs.declared.Fault.{Fault}
+use Rattle.model.specs.declared.Fault.TheVariants as fault
+pub use Rattle.model.specs.declared.Refusal.{Refusal}
+use Rattle.model.specs.declared.Refusal.TheVariants as refusal
 
 -- ## "Status: 0 parked, 1 running, 2 ended, 3 faulted"
 
@@ -74,6 +79,27 @@ fault_barred = 31
 abbrev pub fault_long : ℕ
 fault_long = 32
 
+-- "If an answer is an enum, the promises use a definition that states this paper's number .. for each of its cases"
+abbrev pub fault_number : Fault → ℕ
+fault_number fault.Opcode = fault_opcode
+fault_number fault.Fetch = fault_fetch
+fault_number fault.Bitmap = fault_bitmap
+fault_number fault.NoBitmap = fault_no_bitmap
+fault_number fault.Clip = fault_clip
+fault_number fault.Data = fault_data
+fault_number fault.Call = fault_call
+fault_number fault.Return = fault_return
+fault_number fault.NoFont = fault_no_font
+fault_number fault.Copy = fault_copy
+fault_number fault.Radius = fault_radius
+fault_number fault.Barred = fault_barred
+fault_number fault.Long = fault_long
+
+-- the number of a check's fault; 0 for none
+abbrev pub fault_met : {A : Type 0} → Result A Fault → ℕ
+fault_met (Ok a) = 0
+fault_met (Err f) = fault_number f
+
 -- ## Refusals
 
 -- "1 no such pane"
@@ -127,3 +153,24 @@ refuse_record = 12
 -- "A switch value other than 0 or 1 is refused with 33" (02, A.7)
 abbrev pub refuse_switch : ℕ
 refuse_switch = 33
+
+-- the paper's number for each case of the code's enum
+abbrev pub refusal_number : Refusal → ℕ
+refusal_number refusal.Pane = refuse_pane
+refusal_number refusal.End = refuse_end
+refusal_number refusal.Odd = refuse_odd
+refusal_number refusal.Status = refuse_status
+refusal_number refusal.Pixel = refuse_pixel
+refusal_number refusal.Geometry = refuse_geometry
+refusal_number refusal.Screen = refuse_screen
+refusal_number refusal.Rectangle = refuse_rectangle
+refusal_number refusal.Store = refuse_store
+refusal_number refusal.Overlap = refuse_overlap
+refusal_number refusal.Shared = refuse_shared
+refusal_number refusal.Record = refuse_record
+refusal_number refusal.Switch = refuse_switch
+
+-- the number of a check's refusal; 0 for none
+abbrev pub refused_by : {A : Type 0} → Result A Refusal → ℕ
+refused_by (Ok a) = 0
+refused_by (Err r) = refusal_number r

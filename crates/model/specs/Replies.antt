@@ -1,13 +1,14 @@
 -- Replies (01, "For those who test a delivery"): what a call answers, in the paper's numbers, and the same of
 -- each case of the code's enum.
-use Rattle.std.specs.Prelude.{ℕ, List, [], ◌∷◌, ◌++◌, ℤ, pos}
+use Rattle.std.specs.Prelude.{ℕ, List, [], ◌∷◌, ◌++◌, ℤ, pos, Ok, Err}
+use Rattle.std.specs.declared.result.Result.{Result}
+use Rattle.model.specs.Numbers.{Fault, Refusal, fault_number, refusal_number}
 use Rattle.model.specs.Words.{digit}
 use Rattle.model.specs.Coordinates.{coord}
 pub use Rattle.model.specs.declared.Progress.{Progress}
 pub use Rattle.model.specs.declared.Ran.{Ran}
 pub use Rattle.model.specs.declared.View.{View}
-pub use Rattle.model.specs.declared.Verdict.{Verdict}
-use Rattle.model.specs.declared.Verdict.TheVariants.{Clean, Found}
+pub use Rattle.model.specs.declared.FoundFault.{FoundFault}
 pub use Rattle.model.specs.declared.Reply.{Reply}
 use Rattle.model.specs.declared.Reply.TheVariants as reply
 
@@ -20,6 +21,12 @@ pub data Value : Type 0 where
 pub data Response : Type 0 where
   refused_with : ℕ → Response
   accepted_with : List Value → Response
+
+-- what the judge finds (02, A.2): a clean list with the number of commands walked, or the number of a fault, 31 or 32
+-- among them, with its address
+pub data Verdict : Type 0 where
+  Clean : ℕ → Verdict
+  Found : ℕ → ℕ → Verdict
 
 abbrev pub natural : ℕ → Value
 natural n = number (pos n)
@@ -47,10 +54,18 @@ abbrev pub verdict_values : Verdict → List Value
 verdict_values (Clean n) = natural 0 ∷ natural n ∷ []
 verdict_values (Found f a) = natural f ∷ address a ∷ []
 
-abbrev pub response : Reply → Response
-response (reply.Refused n) = refused_with n
-response reply.Done = accepted_with []
-response (reply.Ran r) = accepted_with (ran_values r)
-response (reply.Seen v) = accepted_with (view_values v)
-response (reply.Value n) = accepted_with (natural n ∷ [])
-response (reply.Judged v) = accepted_with (verdict_values v)
+-- .. in the code: the commands walked, or else the first fault
+abbrev pub verdict : Result ℕ FoundFault → Verdict
+verdict (Ok n) = Clean n
+verdict (Err f) = Found (fault_number f.fault) f.address
+
+abbrev pub reply_values : Reply → List Value
+reply_values reply.Done = []
+reply_values (reply.Ran r) = ran_values r
+reply_values (reply.Seen v) = view_values v
+reply_values (reply.Value n) = natural n ∷ []
+reply_values (reply.Judged v) = verdict_values (verdict v)
+
+abbrev pub response : Result Reply Refusal → Response
+response (Ok a) = accepted_with (reply_values a)
+response (Err r) = refused_with (refusal_number r)

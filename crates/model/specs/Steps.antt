@@ -3,7 +3,7 @@
 use Rattle.std.specs.Prelude.{ℕ, List, [], cond, ◌&&◌, ◌||◌, ltb, eqb, length}
 use Rattle.model.specs.Bitmaps.{Geometry, Row, Bitmap, Surface, surface_of}
 use Rattle.model.specs.declared.Bitmap.TheVariants as bitmap
-use Rattle.model.specs.Numbers.{status_trapped}
+use Rattle.model.specs.Numbers.{status_trapped, fault_number}
 use Rattle.model.specs.Record.{Pane, Progress, Flags, flags_of, with_progress, with_position, with_flags, ended}
 use Rattle.model.specs.Record.{faulted}
 use Rattle.model.specs.Pixels.{Change, changes}
@@ -89,7 +89,7 @@ attempted g r p pixel_of store next c fault =
 
 unfoldable pub obey : Geometry → Row → Pane → (ℕ → ℕ → ℕ) → List ℕ → Decoded → Plan
 obey g r p pixel_of store End = stopped (ended p) store
-obey g r p pixel_of store (Fault f) = stopped (faulted p f) store
+obey g r p pixel_of store (Fault f) = stopped (faulted p (fault_number f)) store
 obey g r p pixel_of store (Do c next) = attempted g r p pixel_of store next c (fault_of g r (context_of p) store c)
 
 -- one step, from the record, what the pane shows of its pixels, and its store

@@ -3,7 +3,7 @@
 // over the bench figures, over CIRCLE's points and over the scissor.
 #![tactic(auto)]
 
-ghost use Rattle.std.specs.Prelude.{ℕ};
+ghost use Rattle.std.specs.Prelude.{ℕ, ◌≡◌};
 ghost use Rattle.model.specs.Circles.{CirclePoints};
 ghost use Rattle.model.specs.Figures.{All, table};
 ghost use Rattle.model.specs.ScissorKept.{ScissorKept};
@@ -37,7 +37,9 @@ pub struct Frame {
     pub row: Row,
 }
 
-// "Status: 0 parked, 1 running, 2 ended, 3 faulted"; 4 stopped after a CHAR that met a T (02, A.7).
+// "Status: 0 parked, 1 running, 2 ended, 3 faulted"; 4 stopped after a CHAR that met a T (02, A.7). A record may be lent
+// with any status, fault, operation, path and rotation, and refusal 12 says which it has not (`pane_bad`): so these are
+// numbers, and no enums.
 pub const STATUS_PARKED: u8 = 0;
 
 pub const STATUS_RUNNING: u8 = 1;
@@ -63,7 +65,8 @@ pub struct Point {
     pub y: u16,
 }
 
-// The active bitmap, with the values that DEF_BITMAP gave.
+// The active bitmap, with the values that DEF_BITMAP gave. Readers tell the three cases apart at once: an `Option` of the
+// other two would nest each match.
 #[derive(Clone, Copy)]
 pub enum Bitmap {
     Absent,
@@ -91,7 +94,7 @@ pub struct Clip {
 
 // The scissor (02, A.6): "the rectangle in screen coordinates where drawing can land", four zeros where it can
 // land nowhere.
-#[derive(Clone, Copy)]
+#[derive(Clone, Copy, PartialEq, Eq)]
 pub struct Scissor {
     pub left: u32,
     pub top: u32,
@@ -110,7 +113,7 @@ pub struct Pen {
     pub transparent: bool,
 }
 
-// The font: none, or its base address in word mode or in byte mode.
+// The font: none, or its base address in word mode or in byte mode, told apart at once as a bitmap's cases are.
 #[derive(Clone, Copy)]
 pub enum Font {
     Absent,
@@ -207,11 +210,11 @@ pub enum Opcode {
     ScanLines,
 }
 
-// An opcode number: what it names with the number of its parameter words, or unknown.
+// A known opcode number: what it names, and the number of its parameter words.
 #[derive(Clone, Copy)]
-pub enum OpcodeEntry {
-    Known(Opcode, u8),
-    Unknown,
+pub struct OpcodeEntry {
+    pub opcode: Opcode,
+    pub words: u8,
 }
 
 // The source rectangle of a copy, by its words: from (x,y) to (x+dx,y+dy), both corners in.
@@ -317,12 +320,41 @@ pub enum Command {
     },
 }
 
-// What stands at the pointer: a command with the address after it, the end, or a fault.
+// "Faults, in the order written within a command", each with the paper's number; the last two are the judge's own.
+#[derive(Clone, Copy, Debug, PartialEq, Eq)]
+pub enum Fault {
+    Opcode = 20,
+    Fetch = 21,
+    Bitmap = 22,
+    NoBitmap = 23,
+    Clip = 24,
+    Data = 25,
+    Call = 26,
+    Return = 27,
+    NoFont = 28,
+    Copy = 29,
+    Radius = 30,
+    Barred = 31,
+    Long = 32,
+}
+
+impl From<Fault> for u8 {
+    ghost use Rattle.model.specs.Numbers.{fault_number};
+
+    ghost from_gives = { λ fault n. n ≡ fault_number fault };
+
+    fn from(fault: Fault) -> u8 {
+        fault as u8
+    }
+}
+
+// What stands at the pointer: a command with the address after it, the end, or a fault. Every reader tells all three
+// apart at once, so `Option` in `Result` would be no plainer.
 #[derive(Clone, Copy)]
 pub enum Decoded {
     Do(Command, u32),
     End,
-    Fault(u8),
+    Fault(Fault),
 }
 
 // ---- Pixels
@@ -340,7 +372,7 @@ pub struct Surface {
     pub height: usize,
 }
 
-// What a pixel is drawn with: nothing (a 0 under transparency), a colour word, or a copied value.
+// What a pixel is drawn with: nothing (a 0 under transparency), a colour word, or a copied value, told apart at once.
 #[derive(Clone, Copy)]
 pub enum Source {
     Nothing,
@@ -368,23 +400,50 @@ pub struct View {
     pub trap: bool,
 }
 
-// What the judge finds: a clean list with the number of commands walked, or the number of a fault, 31 or 32
-// among them, with its address.
-#[derive(Clone, Copy)]
-pub enum Verdict {
-    Clean(u32),
-    Found(u8, u32),
+// A fault that the judge finds, 31 or 32 among them, with the address of its command.
+#[derive(Clone, Copy, Debug, PartialEq, Eq)]
+pub struct FoundFault {
+    pub fault: Fault,
+    pub address: u32,
 }
 
-// A call's reply: the refusal, or acceptance with its values.
+// An accepted call's reply, with its values. The judge answers how many commands it walked of a clean list, or else
+// the first fault.
 #[derive(Clone, Copy)]
 pub enum Reply {
-    Refused(u8),
     Done,
     Ran(Ran),
     Seen(View),
     Value(u8),
-    Judged(Verdict),
+    Judged(Result<u32, FoundFault>),
+}
+
+// "Calls and their refusals", each with the paper's number.
+#[derive(Clone, Copy, Debug, PartialEq, Eq)]
+pub enum Refusal {
+    Pane = 1,
+    End = 2,
+    Odd = 3,
+    Status = 4,
+    Pixel = 5,
+    Geometry = 6,
+    Screen = 7,
+    Rectangle = 8,
+    Store = 9,
+    Overlap = 10,
+    Shared = 11,
+    Record = 12,
+    Switch = 33,
+}
+
+impl From<Refusal> for u8 {
+    ghost use Rattle.model.specs.Numbers.{refusal_number};
+
+    ghost from_gives = { λ refusal n. n ≡ refusal_number refusal };
+
+    fn from(refusal: Refusal) -> u8 {
+        refusal as u8
+    }
 }
 
 // ---- Bench figures

@@ -2,7 +2,7 @@
 // README.md shows the part between the marks; tests/run-documents compares the two.
 #![tactic(auto)]
 
-use model::{Console, Geometry, Reply, Row};
+use model::{Console, Geometry, Refusal, Reply, Row};
 use std::io;
 
 // README: begin
@@ -29,7 +29,7 @@ fn one_pane() -> Console {
     }
 }
 
-fn draw(screen: &mut [u8], stores: &mut [u8]) -> Reply {
+fn draw(screen: &mut [u8], stores: &mut [u8]) -> Result<Reply, Refusal> {
     // DEF_BITMAP the pane; DEF_COLORS foreground 1, background 0; LINE 5 to the right, 2 down; end word
     let list =
         b"\x00\x1a\x00\x00\x20\x00\x0f\x00\x07\x00\x01\x00\x00\x3d\xff\xff\x00\x00\x00\x54\x05\x00\x02\x00\x01\x00";
@@ -40,11 +40,11 @@ fn draw(screen: &mut [u8], stores: &mut [u8]) -> Reply {
     ran.reply
 }
 
-fn tell(rt: &impl Print, reply: Reply) -> io::Result<()> {
+fn tell(rt: &impl Print, reply: Result<Reply, Refusal>) -> io::Result<()> {
     match reply {
-        Reply::Ran(ran) => println!(rt; "commands done: {}", ran.commands),
-        Reply::Refused(number) => println!(rt; "refused: {number}"),
-        _ => println!(rt; "another reply: 0"),
+        Ok(Reply::Ran(ran)) => println!(rt; "commands done: {}", ran.commands),
+        Ok(_) => println!(rt; "another reply: 0"),
+        Err(refusal) => println!(rt; "refused: {}", u8::from(refusal)),
     }
 }
 // README: end

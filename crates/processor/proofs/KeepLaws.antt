@@ -1,5 +1,5 @@
 -- A step of a running pane leaves a good record: what refusal 12 checks is kept by every command.
-use mathlib.Core.Path.{◌≡◌, refl, sym, ◌∙◌}
+use mathlib.Core.Path.{◌≡◌, refl, sym, ap, ◌∙◌}
 use mathlib.Core.Logic.{◌⊎◌, inl, inr}
 use mathlib.Core.Bool.{Bool, true, false, cond, ◌||◌}
 use mathlib.Core.List.{List}
@@ -15,10 +15,12 @@ use Rattle.model.specs.declared.Bitmap.{Bitmap}
 use Rattle.model.specs.declared.Command.{Command}
 use Rattle.model.specs.declared.Command.TheVariants as command
 use Rattle.model.specs.declared.OpcodeEntry.{OpcodeEntry}
-use Rattle.model.specs.declared.OpcodeEntry.TheVariants.{Known, Unknown}
+use Rattle.std.specs.Prelude.{Some, None}
+use Rattle.std.specs.declared.option.Option.{Option}
+use Rattle.model.specs.declared.Fault as declared
 use Rattle.model.specs.declared.Decoded.{Decoded}
 use Rattle.model.specs.declared.Decoded.TheVariants.{Do, End, Fault}
-use Rattle.model.specs.Numbers.{status_running, fault_bitmap, fault_call, fault_clip, fault_data, fault_no_bitmap}
+use Rattle.model.specs.Numbers.{status_running, fault_number, fault_bitmap, fault_call, fault_clip, fault_data, fault_no_bitmap}
 use Rattle.model.specs.Words.{word_at}
 use Rattle.model.specs.Coordinates.{coord, negative}
 use Rattle.model.specs.Bitmaps.{rule_broken, bitmap_of, surface_of}
@@ -156,29 +158,29 @@ module _ (g : Geometry) (r : Row) (p : Pane) (good : Good g r p) (pixel_of : ℕ
 
 -- ## A step
 
-fault_is : {m n : ℕ} → Fault m ≡ Fault n → m ≡ n
+fault_is : {m n : declared.Fault} → Fault m ≡ Fault n → m ≡ n
 fault_is q = cc
 
 -- what the decoder answers beside a command is a fault 20 or 21
-fetch_fault : (len : ℕ) (s : List ℕ) (at : ℕ) (shape : OpcodeEntry) (f : ℕ) → fetch len s at shape ≡ Fault f → (20 ≤ f) × (f ≤ 30)
+fetch_fault : (len : ℕ) (s : List ℕ) (at : ℕ) (entry : Option OpcodeEntry) (f : declared.Fault) → fetch len s at entry ≡ Fault f → (20 ≤ fault_number f) × (fault_number f ≤ 30)
 unfolding fetch
-fetch_fault len s at Unknown f e = let q : 20 ≡ f = cc in (omega arith, omega arith)
-fetch_fault len s at (Known op n) f e = split (ltb len (at + 2 + 2 * n))
-    (λ t. let q : 21 ≡ f = fault_is (sym (cond_true _ _ t) ∙ e) in (omega arith, omega arith))
+fetch_fault len s at None f e = let q : 20 ≡ fault_number f = ap fault_number (fault_is e) in (omega arith, omega arith)
+fetch_fault len s at (Some entry) f e = split (ltb len (at + 2 + 2 * entry.words))
+    (λ t. let q : 21 ≡ fault_number f = ap fault_number (fault_is (sym (cond_true _ _ t) ∙ e)) in (omega arith, omega arith))
     (λ t. absurd (do_fault (sym (cond_false _ _ t) ∙ e)))
   where
-    do_fault : {c : Command} {m n : ℕ} → Do c m ≡ Fault n → ⊥
+    do_fault : {c : Command} {m : ℕ} {f : declared.Fault} → Do c m ≡ Fault f → ⊥
     do_fault q = let z : ◌≡◌ {A = ℕ} 0 1 = cc in omega arith
 
-decode_fault : (len : ℕ) (s : List ℕ) (at f : ℕ) → decode len s at ≡ Fault f → (20 ≤ f) × (f ≤ 30)
+decode_fault : (len : ℕ) (s : List ℕ) (at : ℕ) (f : declared.Fault) → decode len s at ≡ Fault f → (20 ≤ fault_number f) × (fault_number f ≤ 30)
 unfolding decode
 decode_fault len s at f e = split (eqb (at % 2) 1 || ltb len (at + 2))
-    (λ t. let q : 21 ≡ f = fault_is (sym (cond_true _ _ t) ∙ e) in (omega arith, omega arith))
+    (λ t. let q : 21 ≡ fault_number f = ap fault_number (fault_is (sym (cond_true _ _ t) ∙ e)) in (omega arith, omega arith))
     (λ t. split (eqb (word_at s at % 2) 1)
     (λ u. absurd (end_fault (sym (cond_true _ _ u) ∙ (sym (cond_false _ _ t) ∙ e))))
     (λ u. fetch_fault len s at (opcode_of (word_at s at / 256)) f (sym (cond_false _ _ u) ∙ (sym (cond_false _ _ t) ∙ e))))
   where
-    end_fault : {n : ℕ} → End ≡ Fault n → ⊥
+    end_fault : {f : declared.Fault} → End ≡ Fault f → ⊥
     end_fault q = let z : ◌≡◌ {A = ℕ} 0 1 = cc in omega arith
 
 module _ (g : Geometry) (r : Row) (p : Pane) (good : Good g r p) (pixel_of : ℕ → ℕ → ℕ) (store : List ℕ) where
@@ -186,7 +188,7 @@ module _ (g : Geometry) (r : Row) (p : Pane) (good : Good g r p) (pixel_of : ℕ
       → decode r.len store p.progress.pointer ≡ d → Good g r (obey g r p pixel_of store d).pane
   unfolding obey
   obey_good s bytes End e = good_ended good s
-  obey_good s bytes (Fault f) e = let h = decode_fault r.len store p.progress.pointer f e in good_faulted good f h.0 h.1
+  obey_good s bytes (Fault f) e = let h = decode_fault r.len store p.progress.pointer f e in good_faulted good (fault_number f) h.0 h.1
   obey_good s bytes (Do c next) e = attempted_good g r p good pixel_of store next s c (decode_addressed r.len store p.progress.pointer c next bytes e)
 
   -- what refusal 12 checks is kept by a step of a running pane

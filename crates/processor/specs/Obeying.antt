@@ -9,7 +9,7 @@ use Rattle.model.specs.declared.Decoded.TheVariants.{Do, End, Fault}
 use Rattle.model.specs.Bitmaps.{pane_surface, pixels}
 use Rattle.model.specs.Commands.{Addressed, decode}
 use Rattle.model.specs.Faults.{context_of, fault_of}
-use Rattle.model.specs.Numbers.{status_running}
+use Rattle.model.specs.Numbers.{status_running, fault_number}
 use Rattle.model.specs.Record.{ended, faulted}
 use Rattle.model.specs.Runs.{Finish, PaintFits, carried, most_pixels, runs}
 use Rattle.model.specs.Steps.{attempted}
@@ -58,7 +58,7 @@ pub record Advances (g : Geometry) (r : Row) (budget : ℕ) (p : Pane) (screen s
 -- the record after an end word or a fault of the decoder
 abbrev pub stopped_of : Pane → Decoded → Pane
 stopped_of p End = ended p
-stopped_of p (Fault f) = faulted p f
+stopped_of p (Fault f) = faulted p (fault_number f)
 stopped_of p (Do c next) = p
 
 -- a run by the code: it leaves what model says, and its pixels fit

@@ -2,7 +2,8 @@
 // status is 1 and budget is left.
 #![tactic(auto)]
 
-ghost use Rattle.std.specs.Prelude.{◌≡◌, max, length};
+ghost use Rattle.std.specs.Prelude.{◌≡◌, length};
+ghost use Rattle.model.specs.Numbers.{fault_met};
 ghost use Rattle.model.specs.Commands.{Addressed};
 ghost use Rattle.model.specs.Faults.{context_of, fault_of};
 ghost use Rattle.batches.specs.Batches.{reached};
@@ -12,7 +13,7 @@ ghost use Rattle.processor.specs.Obeying.{Advancing, Advances, Obeys, Runs, fini
 
 use batches::{Batch, batch_from};
 use faults::{fault_of, may_fault};
-use model::{Command, Context, Decoded, Frame, Pane, STATUS_RUNNING};
+use model::{Command, Context, Decoded, Fault, Frame, Pane, STATUS_RUNNING};
 use perform::perform;
 use state_commands::control;
 
@@ -31,10 +32,10 @@ fn finish_with(pane: Pane, count: u32, paint: u64) -> Finished
     Finished { pane, count, paint }
 }
 
-// A command's fault, or 0 for none; where it can't have one, what faults depend on is not gathered.
-fn fault_in(store: &[u8], f: Frame, p: Pane, c: Command) -> u8
+// A command's fault, if it has one; where it can't, what faults depend on is not gathered.
+fn check(store: &[u8], f: Frame, p: Pane, c: Command) -> Result<(), Fault>
     requires { Checkable f.geometry f.row (context_of p) (length store.now) × Addressed c }
-    ensures { result ≡ fault_of f.geometry f.row (context_of p) store.now c }
+    ensures { fault_met result ≡ fault_of f.geometry f.row (context_of p) store.now c }
 {
     if may_fault(c) {
         let bitmap = p.bitmap;
@@ -47,7 +48,7 @@ fn fault_in(store: &[u8], f: Frame, p: Pane, c: Command) -> u8
         };
         return fault_of(store, f, x, c);
     }
-    0
+    Ok(())
 }
 
 // A command tried: faulty, it is only recorded, and else it is done and counts one.
@@ -56,8 +57,7 @@ fn obey(screen: &mut [u8], store: &mut [u8], f: Frame, p: Pane, c: Command, next
     ensures { Obeys f.geometry f.row p next c screen.old store.old
         result screen.new store.new }
 {
-    let fault = fault_in(store, f, p, c);
-    if fault != 0 {
+    if let Err(fault) = check(store, f, p, c) {
         return finish_with(control::faulted(p, fault), 0, 0);
     }
     let d = perform(screen, store, f, p, c, next);
@@ -96,13 +96,6 @@ fn advance(
     obey(screen, store, f, p, c, next)
 }
 
-// The larger of two numbers.
-fn larger(a: u32, b: u32) -> u32
-    ensures { result ≡ max a b }
-{
-    if a < b { b } else { a }
-}
-
 // The record after an end word, or after a fault of the decoder.
 fn stopped(p: Pane, d: Decoded) -> Pane
     ensures { result ≡ stopped_of p d }
@@ -125,6 +118,7 @@ pub fn run(screen: &mut [u8], store: &mut [u8], f: Frame, p: Pane, budget: u32) 
     let mut count: u32 = 0;
     let mut paint: u64 = 0;
     let mut rest = budget;
+    // how much of the budget goes at once is known only after it is done, so no range says how often
     while 0 < rest {
         if q.progress.status != STATUS_RUNNING {
             return finish_with(q, count, paint);
@@ -138,7 +132,8 @@ pub fn run(screen: &mut [u8], store: &mut [u8], f: Frame, p: Pane, budget: u32) 
         q = s.pane;
         count += s.count;
         paint += s.paint;
-        rest -= larger(1, s.count);
+        // a batch takes as many of the budget as it did commands, a fault takes one
+        rest -= u32::max(1, s.count);
     }
     finish_with(q, count, paint)
 }

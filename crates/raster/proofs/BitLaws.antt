@@ -1,13 +1,13 @@
 -- The machine's operations work bit by bit, and a number below 2 ^ n is its n bits. Assumes nothing.
 use mathlib.Core.Path.{◌≡◌, refl, sym, ap, ap₂, ◌∙◌}
-use mathlib.Core.Bool.{Bool, true, false, cond, ◌&&◌}
-use Prim.Native.Nat.{ℕ, zero, suc, ◌+◌, ◌*◌, ◌/◌, ◌%◌, ◌^◌, ◌<◌}
-use native.Mathlib.Nat.{not-suc-le-zero, le_of_suc-le-suc, zero-lt-suc, mod-one, mod-lt, mod-eq_of_lt, pow-suc, lt_of_le_of_lt}
+use mathlib.Core.Bool.{Bool, true, false, cond, ◌&&◌, ◌||◌}
+use Prim.Native.Nat.{ℕ, zero, suc, ◌+◌, ◌*◌, ◌/◌, ◌%◌, ◌^◌, ◌<◌, ◌≤◌}
+use native.Mathlib.Nat.{not-suc-le-zero, le_of_suc-le-suc, zero-lt-suc, mod-one, mod-lt, mod-eq_of_lt, pow-suc, lt_of_le_of_lt, one-mul}
 use native.Mathlib.Numerals.{add-one}
 use native.Mathlib.Omega.{arith}
-use lib.Bits.{bit_and, bit_xor, and_shr, and_mod, xor_shr, xor_mod, xor_lt, and_le_l}
+use lib.Bits.{bit_and, bit_or, bit_xor, and_shr, and_mod, or_shr, or_mod, xor_shr, xor_mod, xor_lt, and_le_l}
 use lib.Dec.{eqb}
-use lib.Pow.{mod-pow-add, shl-shr}
+use lib.Pow.{mod-pow-add, shl-shr, shl_exact}
 use Rattle.model.specs.Words.{bit, num, digit}
 use Rattle.model.proofs.BitLaws.{digit_le, bit_num, num_cong, bit_shr}
 use Rattle.raster.specs.Operations.{muxed, bit_field}
@@ -49,6 +49,11 @@ pub field_is : (x k b : ℕ) → bit_field x k b ≡ x / 2 ^ k % 2 ^ b
 unfolding bit_field
 field_is x k b = num_cong b _ _ (λ i h. sym (bit_shr x k i)) ∙ num_bit b (x / 2 ^ k)
 
+-- .. as the code computes them
+pub field_of_is : (x k b : ℕ) → b ≤ 8 → x / 2 ^ k % (1 * 2 ^ b % 4294967296) ≡ bit_field x k b
+field_of_is x k b h =
+    ap (λ (n : ℕ). x / 2 ^ k % n) (shl_exact {a = 1} 1 b 32 (omega arith) (omega arith) ∙ one-mul (2 ^ b)) ∙ sym (field_is x k b)
+
 pub field_bit : (x k b i : ℕ) → i < b → bit (bit_field x k b) i ≡ bit x (k + i)
 unfolding bit_field
 field_bit x k b i h = bit_num b (λ i. bit x (k + i)) i h
@@ -82,6 +87,14 @@ and_digit (suc zero) (suc zero) hx hy = refl
 and_digit (suc zero) (suc (suc y)) hx hy = absurd (not-suc-le-zero (le_of_suc-le-suc (le_of_suc-le-suc hy)))
 and_digit (suc (suc x)) y hx hy = absurd (not-suc-le-zero (le_of_suc-le-suc (le_of_suc-le-suc hx)))
 
+or_digit : (x y : ℕ) → x < 2 → y < 2 → eqb (bit_or x y) 1 ≡ (eqb x 1 || eqb y 1)
+or_digit zero zero hx hy = refl
+or_digit zero (suc zero) hx hy = refl
+or_digit (suc zero) zero hx hy = refl
+or_digit (suc zero) (suc zero) hx hy = refl
+or_digit x (suc (suc y)) hx hy = absurd (not-suc-le-zero (le_of_suc-le-suc (le_of_suc-le-suc hy)))
+or_digit (suc (suc x)) y hx hy = absurd (not-suc-le-zero (le_of_suc-le-suc (le_of_suc-le-suc hx)))
+
 xor_digit : (x y : ℕ) → x < 2 → y < 2 → eqb (bit_xor x y) 1 ≡ differs (eqb x 1) (eqb y 1)
 xor_digit zero y hx hy = refl
 xor_digit (suc zero) zero hx hy = refl
@@ -97,6 +110,12 @@ unfolding odd
 bit_and_lem =
     bitwise_bit bit_and (λ x y. x && y) (λ a b. and_shr a b 1)
     (λ a b. ap (λ (x : ℕ). eqb x 1) (and_mod a b 1) ∙ and_digit (a % 2) (b % 2) (mod_2 a) (mod_2 b))
+
+pub bit_or_lem : (i a b : ℕ) → bit (bit_or a b) i ≡ (bit a i || bit b i)
+unfolding odd
+bit_or_lem =
+    bitwise_bit bit_or (λ x y. x || y) (λ a b. or_shr a b 1)
+    (λ a b. ap (λ (x : ℕ). eqb x 1) (or_mod a b 1) ∙ or_digit (a % 2) (b % 2) (mod_2 a) (mod_2 b))
 
 pub bit_xor_lem : (i a b : ℕ) → bit (bit_xor a b) i ≡ differs (bit a i) (bit b i)
 unfolding odd

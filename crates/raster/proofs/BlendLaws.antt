@@ -26,6 +26,7 @@ use Rattle.raster.specs.Operations.{Truth, truth_of, chosen, bit_field}
 use Rattle.raster.specs.Place.{PlaceFits, Lies, Drawable}
 use Rattle.raster.specs.Pixels.{blending, overlaid}
 use Rattle.raster.proofs.BitLaws.{bit_mod, bit_shl, field_bit}
+pub use Rattle.raster.proofs.BitLaws.{bit_zero}
 use Rattle.raster.proofs.ByteLaws.{chosen_bit}
 use Rattle.model.proofs.PlaceLaws.{depth_bounds}
 use Rattle.raster.proofs.ChangeLaws.{replaced, updated, byte_fits, change_in}
@@ -78,6 +79,9 @@ pub value_bits : (p : PixelPlace) (value i : ℕ)
 value_bits p value i h l =
     let k : i ≡ p.shift + (i - p.shift) = omega arith in
     bit_mod 8 (value * 2 ^ p.shift) i l ∙ ap (bit (value * 2 ^ p.shift)) k ∙ bit_shl value p.shift (i - p.shift)
+
+-- each of the three
+pub ruleset sources = (bit_zero, colour_bits, value_bits)
 
 -- ## A pixel in its buffer
 

@@ -1,7 +1,7 @@
 -- Where a pixel lies, as the code works it out: column c begins at bit z = c × b of its row, counted from a word's high end, so it lies
 -- in byte z / 8 with the lowest bit flipped (words are low byte first), b bits above the z mod 8 that follow it. Assumes nothing.
 use mathlib.Core.Path.{◌≡◌, refl, ap₂, ◌∙◌}
-use Prim.Native.Nat.{ℕ, zero, suc, ◌+◌, ◌-◌, ◌*◌, ◌/◌, ◌%◌, ◌<◌}
+use Prim.Native.Nat.{ℕ, zero, suc, ◌+◌, ◌-◌, ◌*◌, ◌/◌, ◌%◌, ◌<◌, ◌≤◌}
 use native.Mathlib.Omega.{arith}
 use native.Mathlib.Nat.{mul_comm}
 use lib.Bits.{bit_xor, differ, xor_step, xor_zero_r}
@@ -50,3 +50,7 @@ module _ (s : Surface) (x y : ℕ) where
         inside = omega arith;
         half = omega arith;
       }
+
+  -- the pixel's bits lie in one byte
+  pub shift_in_byte : Depth s.bits → before % 8 ≤ 8 - s.bits
+  shift_in_byte d = omega (arith, column_in_byte d (s.left + x))

@@ -19,17 +19,12 @@ pub fn truth_of(code: u8) -> Truth
     requires { code < 16 }
     ensures { result ≡ truth_of code }
 {
-    let row = code as usize;
-    let word = TRUTHS[row];
-    Truth(
-        (word % 256) as u8,
-        (word / 256 % 256) as u8,
-        (word / 65536 % 256) as u8,
-        (word / 16777216 % 256) as u8,
-    )
+    let [a, b, c, d] = TRUTHS[code as usize].to_le_bytes();
+    Truth(a, b, c, d)
 }
 
 // Each bit is y's where m's is 1, else x's.
+#[tactic(auto, using(crate::proofs::BitLaws::muxed_is))]
 pub fn mux(m: u8, x: u8, y: u8) -> u8
     ensures { result ≡ muxed m x y }
 {
@@ -37,17 +32,16 @@ pub fn mux(m: u8, x: u8, y: u8) -> u8
 }
 
 // The operation of each bit of a source byte and of an old byte.
+#[tactic(auto, unfolding(crate::specs::Operations::chosen))]
 pub fn operate(truth: Truth, source: u8, old: u8) -> u8
     ensures { result ≡ chosen truth source old }
 {
-    let a = truth.0;
-    let b = truth.1;
-    let c = truth.2;
-    let d = truth.3;
+    let Truth(a, b, c, d) = truth;
     mux(old, mux(source, a, b), mux(source, c, d))
 }
 
-// One byte of a word: 0 the low one, 1 the high one.
+// One byte of a word: 0 the low one, 1 the high one. A number, since the byte begins at bit 8 × half.
+#[tactic(auto, using(crate::proofs::BitLaws::field_is))]
 pub fn half_of(word: u16, half: usize) -> u8
     requires { half < 2 }
     ensures { result ≡ bit_field word (8 * half) 8 }
@@ -64,6 +58,7 @@ pub fn field_mask(k: usize, b: usize) -> u8
 }
 
 // The b bits of a byte from k on, as a number.
+#[tactic(auto, using(crate::proofs::BitLaws::field_of_is))]
 pub fn field_of(byte: u8, k: usize, b: usize) -> u8
     requires { k + b ≤ 8 }
     ensures { result ≡ bit_field byte k b }

@@ -12,6 +12,7 @@ use crate::place::{PixelPlace, place_of};
 use model::{Pen, Source, Surface};
 
 // The value of pixel (x,y).
+#[tactic(auto, using(crate::proofs::BlendLaws::pixels_at))]
 pub fn pixel_at(buffer: &[u8], s: Surface, x: usize, y: usize) -> u8
     requires { Drawable s buffer.now x y }
     ensures { result ≡ pixels s buffer.now x y }
@@ -23,6 +24,7 @@ pub fn pixel_at(buffer: &[u8], s: Surface, x: usize, y: usize) -> u8
 
 // A byte with the pixel at a place of it blended: under the half of the mask that lies over the byte, with a
 // source byte whose bits stand where the pixel's do.
+#[tactic(auto, using(crate::proofs::ByteLaws::overlaid_is))]
 fn blended(old: u8, place: PixelPlace, bits: usize, mask: u16, truth: Truth, source: u8) -> u8
     requires { (place.shift + bits ≤ 8) × (place.half < 2) }
     ensures { result ≡ overlaid old place bits mask truth source }
@@ -33,6 +35,7 @@ fn blended(old: u8, place: PixelPlace, bits: usize, mask: u16, truth: Truth, sou
 
 // The byte that has, over a pixel's bits, those of what the pixel is drawn with: the half of a colour word
 // that lies over the pixel's byte, or a copied value moved to the pixel's bits.
+#[tactic(auto, using(crate::proofs::BlendLaws::sources))]
 fn source_byte(source: Source, place: PixelPlace) -> u8
     requires { (place.shift < 8) × (place.half < 2) }
     ensures { (i : ℕ) → place.shift ≤ i → i < 8
@@ -47,6 +50,7 @@ fn source_byte(source: Source, place: PixelPlace) -> u8
 
 // Pixel (x,y) blended with a source. The caller looks the operation's truth table up, once for many pixels.
 // No other bit of the buffer changes.
+#[tactic(auto, using(crate::proofs::BlendLaws::blending_at))]
 pub fn blend(
     buffer: &mut [u8],
     s: Surface,

@@ -1,34 +1,29 @@
 // The first refusal that applies to a call on a pane: set-up's checks again, then 1 and 12.
 ghost use Rattle.std.specs.Prelude.{◌≡◌};
+ghost use Rattle.model.specs.Numbers.{refused_by};
 ghost use Rattle.model.specs.Calls.{call_checks};
 
 use crate::pane::pane_bad;
-use crate::table::setup_refusal;
-use model::{Console, Frame};
-use words::number_if;
+use crate::table::check_setup;
+use model::{Console, Frame, Refusal};
 
-// No such pane.
-const REFUSE_PANE: u8 = 1;
-
-// A pane record that no command leaves.
-const REFUSE_RECORD: u8 = 12;
-
-// The first refusal that applies to a call on the pane with a number, or 0; by the record and the lengths of
-// the two buffers.
-pub fn call_refusal(screen: usize, stores: usize, c: Console, number: u32) -> u8
-    ensures { result ≡ call_checks c screen stores number }
+// The first refusal that applies to a call on the pane with a number; by the record and the lengths of the two
+// buffers.
+#[tactic(auto, using(model::proofs::NumberLaws::refusal_some), unfolding(model::specs::Calls::call_checks))]
+pub fn check_call(screen: usize, stores: usize, c: Console, number: u32) -> Result<(), Refusal>
+    ensures { refused_by result ≡ call_checks c screen stores number }
 {
-    let first = setup_refusal(screen, stores, c);
-    if first != 0 {
-        return first;
-    }
+    check_setup(screen, stores, c)?;
     if c.count <= number {
-        return REFUSE_PANE;
+        return Err(Refusal::Pane);
     }
     let k = number as usize;
     let row = c.rows[k];
     let p = c.panes[k];
     let geometry = c.geometry;
     let f = Frame { geometry, row };
-    number_if(pane_bad(f, p), REFUSE_RECORD, 0)
+    if pane_bad(f, p) {
+        return Err(Refusal::Record);
+    }
+    Ok(())
 }

@@ -1,11 +1,11 @@
 // The check of a pane record: refusal 12.
 ghost use Rattle.std.specs.Prelude.{◌≡◌};
-ghost use Rattle.model.specs.Scissor.{same_scissor, scissor_stale};
+ghost use Rattle.model.specs.Scissor.{scissor_stale};
 ghost use Rattle.model.specs.Setup.{progress_bad, trap_bad, base_bad, font_bad, pane_bad};
 ghost use Rattle.bitmaps.specs.Places.{Cornered};
 
 use bitmaps::{clip_outside, rule_broken, scissor_of};
-use model::{Flags, Font, Frame, Pane, Progress, Row, STATUS_FAULTED, STATUS_TRAPPED, Scissor};
+use model::{Flags, Font, Frame, Pane, Progress, Row, STATUS_FAULTED, STATUS_TRAPPED};
 
 // "Addresses have 22 bits": each is below this.
 const ADDRESS_END: u32 = 0x400000;
@@ -44,14 +44,8 @@ fn font_bad(f: Font) -> bool
     }
 }
 
-// Whether two scissors are the same.
-fn same_scissor(s: Scissor, t: Scissor) -> bool
-    ensures { result ≡ same_scissor s t }
-{
-    (s.left == t.left) & ((s.top == t.top) & ((s.width == t.width) & (s.height == t.height)))
-}
-
 // Whether a record's scissor isn't what would be computed afresh.
+#[tactic(auto, unfolding(model::specs::Scissor::scissor_stale))]
 fn scissor_stale(row: Row, p: Pane) -> bool
     requires { Cornered row }
     ensures { result ≡ scissor_stale row p }
@@ -60,7 +54,7 @@ fn scissor_stale(row: Row, p: Pane) -> bool
     let bitmap = p.bitmap;
     let clip = p.clip;
     let afresh = scissor_of(row, bitmap, clip);
-    !same_scissor(kept, afresh)
+    kept != afresh
 }
 
 // Whether a pane record is one that refusal 12 refuses, for a pane seen through this frame.

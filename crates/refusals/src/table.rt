@@ -1,28 +1,15 @@
 // Set-up's checks on geometry, table and the lengths of the two buffers: refusals 6 to 11.
 ghost use Rattle.std.specs.Prelude.{◌≡◌, ◌≤◌};
+ghost use Rattle.model.specs.Numbers.{refused_by};
 ghost use Rattle.model.specs.Ranges.{out_of};
 ghost use Rattle.model.specs.Setup.{geometry_bad, screen_bytes, rectangle_bad, store_bad, share_pixel, share_byte, checks};
 ghost use Rattle.refusals.specs.Sizes.{Sized, some_row, Found, table_checks};
 
 use bitmaps::{is_depth, row_words, share_span};
-use model::{Console, Geometry, Row};
-use words::number_if;
+use model::{Console, Geometry, Refusal, Row};
 
 // The longest store.
 const MOST_STORE: u32 = 2097152;
-
-// Set-up's refusals.
-const REFUSE_GEOMETRY: u8 = 6;
-
-const REFUSE_SCREEN: u8 = 7;
-
-const REFUSE_RECTANGLE: u8 = 8;
-
-const REFUSE_STORE: u8 = 9;
-
-const REFUSE_OVERLAP: u8 = 10;
-
-const REFUSE_SHARED: u8 = 11;
 
 // Whether a number is below lo or above hi.
 pub fn out_of(lo: u32, hi: u32, n: u32) -> bool
@@ -119,12 +106,10 @@ fn shared(rows: [Row; 8], n: usize, r: Row) -> Sharing
 {
     let mut pixel = false;
     let mut byte = false;
-    let mut i = 0;
-    while i < n {
+    for i in 0..n {
         let s = rows[i];
         pixel = share_pixel(s, r) | pixel;
         byte = share_byte(s, r) | byte;
-        i += 1;
     }
     Sharing { pixel, byte }
 }
@@ -138,15 +123,13 @@ fn found(stores: usize, g: Geometry, rows: [Row; 8], n: usize) -> Findings
     let mut store = false;
     let mut pixel = false;
     let mut byte = false;
-    let mut j = 0;
-    while j < n {
+    for j in 0..n {
         let r = rows[j];
         let s = shared(rows, j, r);
         rectangle = rectangle_bad(g, r) | rectangle;
         store = store_bad(stores, r) | store;
         pixel = s.pixel | pixel;
         byte = s.byte | byte;
-        j += 1;
     }
     Findings {
         rectangle,
@@ -156,29 +139,45 @@ fn found(stores: usize, g: Geometry, rows: [Row; 8], n: usize) -> Findings
     }
 }
 
-// The first of the refusals 7 to 11 that applies, or 0, once 6 does not.
-fn table_refusal(screen: usize, stores: usize, g: Geometry, rows: [Row; 8], n: usize) -> u8
+// The first of the refusals 7 to 11 that applies, once 6 does not.
+#[tactic(auto, unfolding(crate::specs::Sizes::table_checks))]
+fn check_table(
+    screen: usize,
+    stores: usize,
+    g: Geometry,
+    rows: [Row; 8],
+    n: usize,
+) -> Result<(), Refusal>
     requires { Sized g n }
-    ensures { result ≡ table_checks g n rows screen stores }
+    ensures { refused_by result ≡ table_checks g n rows screen stores }
 {
+    if screen < screen_bytes(g) {
+        return Err(Refusal::Screen);
+    }
     let f = found(stores, g, rows, n);
-    let pair = number_if(f.pixel, REFUSE_OVERLAP, number_if(f.byte, REFUSE_SHARED, 0));
-    let row = number_if(
-        f.rectangle,
-        REFUSE_RECTANGLE,
-        number_if(f.store, REFUSE_STORE, pair),
-    );
-    number_if(screen < screen_bytes(g), REFUSE_SCREEN, row)
+    if f.rectangle {
+        return Err(Refusal::Rectangle);
+    }
+    if f.store {
+        return Err(Refusal::Store);
+    }
+    if f.pixel {
+        return Err(Refusal::Overlap);
+    }
+    if f.byte {
+        return Err(Refusal::Shared);
+    }
+    Ok(())
 }
 
-// The first of set-up's refusals that applies, by the lengths of the two buffers, or 0.
-pub fn setup_refusal(screen: usize, stores: usize, c: Console) -> u8
-    ensures { result ≡ checks c.geometry c.count c.rows screen stores }
+// The first of set-up's refusals that applies, by the lengths of the two buffers.
+pub fn check_setup(screen: usize, stores: usize, c: Console) -> Result<(), Refusal>
+    ensures { refused_by result ≡ checks c.geometry c.count c.rows screen stores }
 {
     let g = c.geometry;
     let rows = c.rows;
     if geometry_bad(g, c.count) {
-        return REFUSE_GEOMETRY;
+        return Err(Refusal::Geometry);
     }
-    table_refusal(screen, stores, g, rows, c.count as usize)
+    check_table(screen, stores, g, rows, c.count as usize)
 }

@@ -19,13 +19,7 @@ use Rattle.row_copies.specs.Rows.{operator_bit, left_bit, copied, RowsFit, PartO
 use Rattle.row_copies.specs.Chunks.{Words8, Funnelled8, Mixed8, Put8}
 use Rattle.row_copies.proofs.CopyLaws.{peeked_is, fetched_is, Supplies, supplied}
 
-pub none_yet : (P : ℕ → Type 0) (i : ℕ) → i < 0 → P i
-none_yet P i h = absurd (omega arith)
-
 -- ## Words put
-
-pub put8_none : (at : ℕ) (t s : List ℕ) → Put8 at t 0 s s
-put8_none at t s = record { length = refl; inside = λ i j l h. absurd (omega arith); outside = λ m o. refl }
 
 -- one more word put
 module _ (at : ℕ) (t : List ℕ) (n : ℕ) (old s : List ℕ) {low high : ℕ} (p : Put8 at t n old s) (room : at + 2 * n + 1 < length s)

@@ -1,12 +1,14 @@
 -- Bits of rows: fetched from a source, put into a target, one part after the other, in two buffers or in one.
 use mathlib.Core.Path.{◌≡◌, refl, sym, ap, ◌∙◌}
 use mathlib.Core.Logic.{◌⊎◌, inl, inr}
-use mathlib.Core.Bool.{Bool, true, false, cond}
+use mathlib.Core.Bool.{Bool, true, false}
 use mathlib.Core.List.{List}
 use Prim.Native.Nat.{ℕ, ◌+◌, ◌-◌, ◌*◌, ◌/◌, ◌%◌, ◌≤◌, ◌<◌}
 use native.Mathlib.Omega.{arith}
 use native.Mathlib.Decide.{dec_lt}
 use lib.ListN.{length}
+use denote.Ref.{Bor}
+use Rattle.std.specs.Prelude.{Option, Some, None}
 use Rattle.model.specs.Words.{bit, bit_at, word_at}
 use Rattle.strips.specs.Covers.{Covers, Edged}
 use Rattle.strips.specs.Stretches.{across, Out, Stretched}
@@ -18,7 +20,7 @@ use Rattle.strips.proofs.MixLaws.{edged_stretched, stretched_before}
 use Rattle.strips.proofs.StretchLaws.{stretched_then, stretched_by}
 use Rattle.row_copies.specs.declared.operators.Operator.{Operator}
 use Rattle.row_copies.specs.declared.rows.RowCopy.{RowCopy}
-use Rattle.row_copies.specs.Rows.{ink_over, operator_bit, left_bit, copied, RowsFit, Apart, Slidable, Forward, Backward, InOrder, PartOf, Inner, Eight, begin_of, end_of}
+use Rattle.row_copies.specs.Rows.{ink_over, operator_bit, left_bit, copied, Apart, Forward, Backward, source_in, ReadFirst, PartOf}
 use Rattle.row_copies.specs.Chunks.{Funnelled, Peeked, FetchedBits}
 use Rattle.row_copies.proofs.WordLaws.{ink_bit}
 
@@ -69,10 +71,6 @@ supplied c {word} {lead} {tail} s q l f = record {
       f.bits t (omega (arith, q.wide)) (omega (arith, q.from)) (omega arith) ∙ ap (left_bit s c.base) e;
 }
 
--- a whole word is a part
-pub whole_word : {c : RowCopy} {first last : ℕ} → Inner c first last → (w : ℕ) → first ≤ w → w < last → PartOf c w 0 16
-whole_word i w a b = record { order = omega arith; wide = omega arith; from = omega (arith, i.from); most = omega (arith, i.most) }
-
 -- a part of a word, put under its cover, is copied
 pub word_copied : (x : Operator) (c : RowCopy) (word lead tail : ℕ) (s : List ℕ) {cover source : ℕ} {ink : Ink} {old new : List ℕ} → PartOf c word lead tail
     → Covers lead tail cover → ink ≡ ink_over x source → Edged (c.row + 2 * word) ink cover old new → Supplies c word lead tail s source
@@ -89,25 +87,10 @@ word_copied x c word lead tail s {cover} {source} q v e put gives =
 
 -- ## One after the other
 
-pub stretched_none : (g : ℕ → Bool → Bool) (o lo : ℕ) (s : List ℕ) → Stretched g o lo lo s s
-stretched_none g o lo s = record {
-  length = refl;
-  inside = λ m i. absurd (omega (arith, i.from, i.to));
-  outside = λ m i. refl;
-}
-
 -- the same bounds, otherwise worked out
 pub stretched_ends : {g : ℕ → Bool → Bool} {o lo hi : ℕ} {s t : List ℕ} (lo' hi' : ℕ) → lo ≡ lo' → hi ≡ hi' → Stretched g o lo hi s t
     → Stretched g o lo' hi' s t
 stretched_ends {g} {o} {lo} {hi} {s} {t} lo' hi' p q d = rw (← p, ← q) d
-
--- the target has changed, its length not
-pub fit_kept : {c : RowCopy} {old s t : List ℕ} → length t ≡ length old → RowsFit c old s → RowsFit c t s
-fit_kept e r = record { target = rw e r.target; source = r.source; short = r.short; near = r.near }
-
--- both have
-pub fit_slid : {c : RowCopy} {s t : List ℕ} → length t ≡ length s → RowsFit c s s → RowsFit c t t
-fit_slid e r = record { target = rw e r.target; source = rw e r.source; short = r.short; near = r.near }
 
 -- ## In one buffer
 
@@ -152,7 +135,8 @@ apart_out c lo hi k (inr a) f l g h =
     let e : hi ≤ 16 * ((c.to + c.count + 15) / 16) = omega arith in
     inr (inr (omega (arith, beyond c.row c.base k ((c.to + c.count + 15) / 16) (omega arith))))
 
-left_kept : {g : ℕ → Bool → Bool} {o lo hi : ℕ} {s t : List ℕ} (so k : ℕ) → Stretched g o lo hi s t → Out o lo hi (spot so k) → left_bit t so k ≡ left_bit s so k
+left_kept : {g : ℕ → Bool → Bool} {o lo hi : ℕ} {s t : List ℕ} (so k : ℕ) → Stretched g o lo hi s t → Out o lo hi (spot so k)
+    → left_bit t so k ≡ left_bit s so k
 unfolding left_bit
 left_kept so k p i = p.outside (spot so k) i
 
@@ -190,35 +174,19 @@ module _ (x : Operator) (c : RowCopy) {lo mid hi : ℕ} {s t u : List ℕ} where
       (backward_out c mid hi (across c.row m) f (omega (arith, i.from)) i.to d e))) q)
       b d
 
--- k words more, from word w on, after n of first .. last - 1
-pub slid_next : (x : Operator) (c : RowCopy) (back : Bool) (first last n k w : ℕ) {s t u : List ℕ} → InOrder back c → Inner c first last
-    → Stretched (copied x c s) c.row (16 * begin_of back first last n) (16 * end_of back first last n) s t
-    → Stretched (copied x c t) c.row (16 * w) (16 * w + 16 * k) t u → w ≡ cond back (last - n - k) (first + n) → n + k ≤ last - first
-    → Stretched (copied x c s) c.row (16 * begin_of back first last (n + k)) (16 * end_of back first last (n + k)) s u
-slid_next x c true first last n k w o i p q e h =
-    backward_next x c o p (stretched_ends (16 * (last - (n + k))) (16 * (last - n)) (omega arith) (omega arith) q)
-    (omega (arith, i.from)) (omega arith) (omega arith) (omega (arith, i.most))
-slid_next x c false first last n k w o i p q e h =
-    forward_next x c o p (stretched_ends (16 * (first + n)) (16 * (first + (n + k))) (omega arith) (omega arith) q)
-    i.from (omega arith) (omega arith) (omega (arith, i.most))
+-- ## From any source
 
--- no word yet
-pub slid_none : (g : ℕ → Bool → Bool) (o : ℕ) (back : Bool) (first last : ℕ) (s : List ℕ)
-    → Stretched g o (16 * begin_of back first last 0) (16 * end_of back first last 0) s s
-slid_none g o true first last s = stretched_ends (16 * (last - 0)) (16 * last) (omega arith) refl (stretched_none g o (16 * last) s)
-slid_none g o false first last s = stretched_ends (16 * first) (16 * (first + 0)) refl (omega arith) (stretched_none g o (16 * first) s)
+-- the part behind those copied, its sources read from the buffer as it is then
+module _ (x : Operator) (c : RowCopy) {lo mid hi : ℕ} {s t u : List ℕ} where
+  pub next_part : (source : Option (Bor (List ℕ))) → ReadFirst source false c → Stretched (copied x c (source_in source s)) c.row lo mid s t
+      → Stretched (copied x c (source_in source t)) c.row mid hi t u → c.to ≤ lo → lo ≤ mid → mid ≤ hi → hi ≤ c.to + c.count
+      → Stretched (copied x c (source_in source s)) c.row lo hi s u
+  next_part (Some v) f p q a b d e = stretched_then p q b d
+  next_part None f p q a b d e = forward_next x c f p q a b d e
 
--- where the next eight words begin
-pub next_eight : (c : RowCopy) (back : Bool) (first last n : ℕ) {w : ℕ} → Inner c first last → w ≡ cond back (last - n - 8) (first + n) → n + 8 ≤ last - first
-    → Eight c w
-next_eight c true first last n i e h = record { from = omega (arith, i.from); most = omega (arith, i.most) }
-next_eight c false first last n i e h = record { from = omega (arith, i.from); most = omega (arith, i.most) }
-
--- the order to take
-pub forward_slidable : (c : RowCopy) → Slidable c → c.to ≤ c.from → Forward c
-forward_slidable c (inl e) h = inl (e, h)
-forward_slidable c (inr a) h = inr a
-
-pub backward_slidable : (c : RowCopy) → Slidable c → c.from ≤ c.to → Backward c
-backward_slidable c (inl e) h = inl (e, h)
-backward_slidable c (inr a) h = inr a
+  -- the part before them
+  pub part_before : (source : Option (Bor (List ℕ))) → ReadFirst source true c → Stretched (copied x c (source_in source s)) c.row mid hi s t
+      → Stretched (copied x c (source_in source t)) c.row lo mid t u → c.to ≤ lo → lo ≤ mid → mid ≤ hi → hi ≤ c.to + c.count
+      → Stretched (copied x c (source_in source s)) c.row lo hi s u
+  part_before (Some v) f p q a b d e = stretched_before p q b d
+  part_before None f p q a b d e = backward_next x c f p q a b d e

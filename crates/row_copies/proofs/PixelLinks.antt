@@ -111,7 +111,8 @@ module _ (u us : Surface) (pen : Pen) (operator : Operator) (made : OperatorOf p
       → inked pen (Copied (pixels us src (sx + q) sy)) (place_shift u (x + q)) j v
       ≡ copied operator (row_copy_of u us x y sx sy n) src (place_bit u (x + q) y + j) v
   copied_pixel q j l k v =
-      row_pixel q j l k v ∙ ap₂ (λ (r b : ℕ). copied operator (rows r b) src (place_bit u (x + q) y + j) v) (sym (row_start_lem u y)) (sym (row_start_lem us sy))
+      row_pixel q j l k v
+      ∙ ap₂ (λ (r b : ℕ). copied operator (rows r b) src (place_bit u (x + q) y + j) v) (sym (row_start_lem u y)) (sym (row_start_lem us sy))
 
 -- ## RowsFit
 

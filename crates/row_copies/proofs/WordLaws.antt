@@ -31,7 +31,8 @@ ink_bit x source j d = ap₂ (λ (k f : Bool). differs (d && k) f) (part x.q x.r
     part : (m n : ℕ) → bit (bit_xor (bit_and source m) n) j ≡ differs (bit source j && bit m j) (bit n j)
     part m n = bit_xor_lem j (bit_and source m) n ∙ ap (λ (z : Bool). differs z (bit n j)) (bit_and_lem j source m)
 
-pub mixed_is : (x : Operator) (source old j : ℕ) → bit (mixed old (ink_over x source).keep (ink_over x source).flip) j ≡ operator_bit x j (bit source j) (bit old j)
+pub mixed_is : (x : Operator) (source old j : ℕ)
+    → bit (mixed old (ink_over x source).keep (ink_over x source).flip) j ≡ operator_bit x j (bit source j) (bit old j)
 mixed_is x source old j = mixed_bit_lem old (ink_over x source).keep (ink_over x source).flip j ∙ ink_bit x source j (bit old j)
 
 -- ## An operator of an operation and a mask
@@ -141,7 +142,8 @@ module _ (op mask : ℕ) (plain : Bool) {A B C D none source old both : ℕ}
   full : {X r : ℕ} (v : Bool) → Plane v X → Muxed mask 65535 X r → (j : ℕ) → j < 16 → bit r j ≡ cond (bit mask j) v true
   full v p m j h = m.bits j ∙ ap₂ (cond (bit mask j)) (p.bits j h) (ones j h)
 
-  pub operator_is : plain ≡ eqb (bit_or (bit_or (bit_or none (bit_xor (bit_xor (bit_xor none source) old) both)) (bit_xor none old)) (bit_xor (bit_xor none source) 65535)) 0
+  pub operator_is : plain
+      ≡ eqb (bit_or (bit_or (bit_or none (bit_xor (bit_xor (bit_xor none source) old) both)) (bit_xor none old)) (bit_xor (bit_xor none source) 65535)) 0
       → OperatorOf op mask operator
   unfolding operator_bit
   operator_is e = record {

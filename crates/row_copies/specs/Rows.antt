@@ -1,7 +1,9 @@
 -- A row copied by words: what an operator makes of source and old bits, bits of a row from the left, and what a copy
 -- asks for.
-use Rattle.std.specs.Prelude.{◌≡◌, ◌⊎◌, Bool, true, false, cond, ◌&&◌, List, ℕ, ◌+◌, ◌-◌, ◌*◌, ◌/◌, ◌%◌, ◌≤◌, ◌<◌, length, get_or}
+use Rattle.std.specs.Prelude.{◌≡◌, ◌⊎◌, Bool, true, false, ◌&&◌, List, ℕ, ◌+◌, ◌-◌, ◌*◌, ◌/◌, ◌%◌, ◌≤◌, ◌<◌}
+use Rattle.std.specs.Prelude.{length, get_or, Option, Some, None}
 use Rattle.std.specs.Int.Bits.{bit_and, bit_xor}
+use denote.Ref.{Bor}
 use Rattle.model.specs.Words.{bit, bit_at}
 use Rattle.model.specs.Operations.{new_bit}
 use Rattle.model.specs.declared.Surface.{Surface}
@@ -76,6 +78,16 @@ abbrev pub InOrder : Bool → RowCopy → Type 0
 InOrder true c = Backward c
 InOrder false c = Forward c
 
+-- the buffer that a copy reads: another one, or where none is given the target's own
+abbrev pub source_in : Option (Bor (List ℕ)) → List ℕ → List ℕ
+source_in (Some s) own = s.now
+source_in None own = own
+
+-- nothing is read after it is written: from another buffer in any order
+abbrev pub ReadFirst : Option (Bor (List ℕ)) → Bool → RowCopy → Type 0
+ReadFirst (Some s) back c = Unit {0}
+ReadFirst None back c = InOrder back c
+
 -- the copy of n pixels of one surface, from (sx,sy) on, to another, (x,y) and on
 abbrev pub row_copy_of : Surface → Surface → ℕ → ℕ → ℕ → ℕ → ℕ → RowCopy
 row_copy_of u us x y sx sy n = record {
@@ -108,13 +120,6 @@ pub record Inner (c : RowCopy) (first last : ℕ) : Type 0 where
   pub from : c.to ≤ 16 * first
   pub most : 16 * last < c.to + c.count
 
--- n words of first .. last - 1, from the last on or from the first on: the first of them, and the word after the last
-abbrev pub begin_of : Bool → ℕ → ℕ → ℕ → ℕ
-begin_of back first last n = cond back (last - n) first
-
-abbrev pub end_of : Bool → ℕ → ℕ → ℕ → ℕ
-end_of back first last n = cond back last (first + n)
-
 -- eight whole words from word w on, and a bit behind them
 pub record Eight (c : RowCopy) (w : ℕ) : Type 0 where
   pub from : c.to ≤ 16 * w
@@ -125,10 +130,3 @@ pub record Carried (at from n : ℕ) (s old new : List ℕ) : Type 0 where
   pub length : length new ≡ length old
   pub inside : (i : ℕ) → i < n → get_or new (at + i) 0 ≡ get_or s (from + i) 0
   pub outside : (i : ℕ) → (i < at) ⊎ (at + n ≤ i) → get_or new i 0 ≡ get_or old i 0
-
--- in one buffer: from the first byte to the last nothing is read after it is written; from the last to the first
-abbrev pub ForwardBytes : ℕ → ℕ → ℕ → Type 0
-ForwardBytes at from n = (at ≤ from) ⊎ (from + n ≤ at)
-
-abbrev pub BackwardBytes : ℕ → ℕ → ℕ → Type 0
-BackwardBytes at from n = (from ≤ at) ⊎ (at + n ≤ from)

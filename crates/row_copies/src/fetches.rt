@@ -7,6 +7,7 @@ use strips::stretches::{lead_of, tail_of};
 use words::word;
 
 // The 16 bits from bit k on, from the left, of two words one after the other.
+#[tactic(auto, using(crate::proofs::WordLaws::funnel_is))]
 pub fn funnel(x: u16, y: u16, k: usize) -> u16
     requires { k < 16 }
     ensures { Funnelled x y k result }
@@ -15,6 +16,7 @@ pub fn funnel(x: u16, y: u16, k: usize) -> u16
 }
 
 // Word k - 1 of the row that begins at byte `base`; 0 where there is none.
+#[tactic(auto, using(crate::proofs::CopyLaws::peeked_is))]
 fn peeked(src: &[u8], base: usize, k: usize) -> u16
     requires { (base ≤ length src.now) × (k < 2 ^ 32) }
     ensures { Peeked src.now base k result }
@@ -29,6 +31,7 @@ fn peeked(src: &[u8], base: usize, k: usize) -> u16
 }
 
 // The 16 bits of the row from bit z - 16 on; 0 where the buffer has none.
+#[tactic(auto, using(crate::proofs::CopyLaws::fetched_is))]
 pub fn fetched(src: &[u8], base: usize, z: usize) -> u16
     requires { (base ≤ length src.now) × (z < 2 ^ 32) }
     ensures { FetchedBits src.now base z result }
@@ -40,6 +43,7 @@ pub fn fetched(src: &[u8], base: usize, z: usize) -> u16
 }
 
 // A cover of a word's bits from the left, lead to tail - 1.
+#[tactic(auto, using(strips::proofs::EdgeLaws::both_cover))]
 pub fn cover_of(lead: usize, tail: usize) -> u16
     requires { (lead < tail) × (tail ≤ 16) }
     ensures { Covers lead tail result }

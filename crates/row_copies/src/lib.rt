@@ -3,13 +3,11 @@
 
 pub mod carries; // carries.rt: plain bytes moved
 pub mod chunks; // chunks.rt: eight words at once
-pub mod copies; // copies.rt: a row copied from one buffer to another
+pub mod copies; // copies.rt: a row copied, from one buffer to another or within one
 pub mod fetches; // fetches.rt: sixteen bits of a row from any bit on
 pub mod operators; // operators.rt: what an operation under a mask makes of a source word and an old one
 pub mod rows; // rows.rt: one row's copy in numbers
-pub mod slides; // slides.rt: a row copied within one buffer
 
-pub use copies::copy_row;
+pub use copies::{copy_row, slide_row};
 pub use operators::{Operator, operator_of};
 pub use rows::RowCopy;
-pub use slides::slide_row;

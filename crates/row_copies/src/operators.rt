@@ -21,6 +21,7 @@ pub struct Operator {
 }
 
 // A truth table's entry over a whole word.
+#[tactic(auto, using(crate::proofs::WordLaws::plane_none, crate::proofs::WordLaws::plane_all))]
 fn plane(entry: u8) -> u16
     ensures { (v : Bool) → entry ≡ spread v → Plane v result }
 {
@@ -28,6 +29,7 @@ fn plane(entry: u8) -> u16
 }
 
 // Each bit is y's where m's is 1, else x's.
+#[tactic(auto, using(crate::proofs::WordLaws::mux_is))]
 fn mux_word(m: u16, x: u16, y: u16) -> u16
     ensures { Muxed m x y result }
 {
@@ -74,6 +76,7 @@ pub fn ink_over(source: u16, operator: Operator) -> Ink
 }
 
 // A word mixed.
+#[tactic(auto, using(crate::proofs::WordLaws::mixed_is))]
 pub fn mixed(source: u16, old: u16, operator: Operator) -> u16
     ensures { (j : ℕ) → bit result j ≡ operator_bit operator j (bit source j) (bit old j) }
 {

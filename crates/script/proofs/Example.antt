@@ -7,7 +7,7 @@ use Prim.Native.Char.{code}
 use Prim.Native.String.{String, [], ◌∷◌}
 use Rattle.model.proofs.Computing.{machine}
 use Rattle.script_fields.specs.Numbers.{longer, extended, and_digits, spelled_number}
-use Rattle.script_fields.specs.Fields.{on_first, pieces, spelled_bytes, numbers_of, line_numbers}
+use Rattle.script_fields.specs.Fields.{lines_of, spelled_bytes, numbers_of, line_numbers}
 use Rattle.script_lines.specs.declared.Language.TheVariants as language
 use Rattle.script_lines.specs.Lines.{form_in, line_by, line_by_letter, line_of}
 use Rattle.script_numerals.specs.Numerals.{numeral, comma_separated}
@@ -23,6 +23,6 @@ bytes (c ∷ s) = code c then bytes s
 pub example :
     answered language.Panes (bytes "s,16,2,1\np,0,0,8,2,32\no\nw,0,0,003d010000000100\ng,0,0\nr,0,5\nl,0\nx,0,3,1\ng,1,0\n")
     ≡ bytes "o,0\nw,0\ng,0\nr,0,1,2,0,0\nl,0,2,0,6,0,0,0,0\nx,0,0\ng,1\n"
-unfolding machine longer extended and_digits spelled_number on_first pieces spelled_bytes numbers_of line_numbers form_in line_by line_by_letter line_of numeral
+unfolding machine longer extended and_digits spelled_number lines_of spelled_bytes numbers_of line_numbers form_in line_by line_by_letter line_of numeral
     comma_separated reply_text call_made whole_buffers after_line printed answered
 example = refl

@@ -11,20 +11,20 @@ use lib.Seq.{take_all}
 use Rattle.model.specs.declared.Geometry.{Geometry}
 use Rattle.model.specs.declared.Row.{Row}
 use Rattle.model.specs.declared.Pane.{Pane}
-use Rattle.model.specs.declared.Verdict.{Verdict}
-use Rattle.model.specs.declared.Verdict.TheVariants.{Clean, Found}
 use Rattle.model.specs.Record.{fresh}
 use Rattle.model.specs.Judge.{verdict_of}
-use Rattle.model.specs.Replies.{accepted_with, verdict_values}
+use Rattle.model.specs.Replies.{Verdict, Clean, Found, accepted_with, verdict_values}
 use Rattle.model.specs.Calls.{State, Answer, Call, Request, put, start, run, look, pixel, peek, clear, judge, switch, on_pane, exec, set_up}
 use Rattle.model.specs.Calls.{row_of, record_of, store_of, setup_refusal, refusal, started, with_pane, accepted}
 use Rattle.model.proofs.Decisions.{cond_ind}
-use Rattle.script_fields.specs.Fields.{on_first, pieces, line_feed, lines_of, most_script}
+use Rattle.script_fields.specs.Fields.{line_feed, lines_of, most_script}
+use Rattle.std.specs.List.{onto_first}
 use Rattle.script_lines.specs.declared.Language.{Language}
 use Rattle.script_lines.specs.Lines.{Line, sizing, adding, opening, asking, malformed, line_of, letter_open}
 use Rattle.script_replies.specs.Replies.{most_reply}
 use Rattle.script_replies.proofs.LengthLaws.{Short, reply_length}
-use Rattle.script_session.specs.SessionState.{SessionState, Reaction, in_use, screen_misplaced, pane_misplaced, open_misplaced, call_made, whole_buffers, after_line}
+use Rattle.script_session.specs.SessionState.{SessionState, Reaction, in_use, call_made, whole_buffers, after_line}
+use Rattle.script_session.specs.SessionState.{screen_misplaced, pane_misplaced, open_misplaced}
 use Rattle.script.specs.Scripts.{outcome_text, printed, new_state, room, answered}
 
 -- ## A line
@@ -76,18 +76,17 @@ line_length malformed d = omega arith
 
 -- ## All lines
 
-on_first_length : (b : ℕ) (ps : List (List ℕ)) (n : ℕ) → length ps ≤ n → length (on_first b ps) ≤ suc n
-unfolding on_first
-on_first_length b [] n h = omega arith
-on_first_length b (p ∷ ps) n h = omega arith
+onto_first_length : (b : ℕ) (ps : List (List ℕ)) (n : ℕ) → length ps ≤ n → length (onto_first b ps) ≤ suc n
+onto_first_length b [] n h = omega arith
+onto_first_length b (p ∷ ps) n h = omega arith
 
 lines_length : (l : List ℕ) → length (lines_of l) ≤ length l
-unfolding pieces
+unfolding lines_of
 lines_length [] = omega arith
 lines_length (b ∷ l) =
     let rest = lines_length l in
     cond_ind (λ (ps : List (List ℕ)). length ps ≤ suc (length l)) (eqb b line_feed) _ _ (λ e. omega arith)
-    (λ e. on_first_length b (lines_of l) (length l) rest)
+    (λ e. onto_first_length b (lines_of l) (length l) rest)
 
 printed_length : (language : Language) (ls : List (List ℕ)) (d : SessionState) → length (printed language ls d) ≤ most_reply * length ls
 unfolding printed

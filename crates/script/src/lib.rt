@@ -12,14 +12,15 @@ ghost use Rattle.script_session.specs.SessionState.{most_screen, most_stores};
 ghost use Rattle.script_numerals.specs.Numerals.{Wrote};
 ghost use Rattle.script.specs.Scripts.{outcome_text, answered, printed, room};
 
-use script_fields::MOST_BYTES;
 pub use script_fields::MOST_SCRIPT;
+use script_fields::{LINE_FEED, MOST_BYTES, without_line_feed};
 use script_lines::Language;
 use script_replies::MOST_REPLY;
 use script_session::{LineAnswer, LineStep, MOST_SCREEN, MOST_STORES, Session};
 
 // Obeys the lines of a script and writes the replies to the start of a buffer. Answers how many bytes they
 // take. What the buffer has no room for is left out: nothing, where it has `room`.
+#[tactic(auto, using(crate::proofs::RoomLaws::answered_whole), unfolding(crate::specs::Scripts::answered))]
 pub fn answer(language: Language, script: &[u8], out: &mut [u8]) -> usize
     ensures within { IsPrefixLen result out.new }
     ensures written { take result out.new
@@ -86,29 +87,25 @@ fn lines(
         (printed language (lines_of script.now)
         (session_state new_session screen.old stores.old)) }
 {
-    let mut session = script_session::new_session();
+    let mut session = Session::default();
     let mut written = 0;
-    let mut from = 0;
-    while from < script.len() {
-        let end = script_fields::line_end(script, from);
-        let next = end + 1;
+    for line in script.split_inclusive(|b| *b == LINE_FEED) {
         let step = one_line(
             language,
-            &script[from..end],
+            without_line_feed(line),
             screen,
             stores,
             scratch,
             session,
         );
-        let answer = step.answer;
-        written = print(out, written, answer);
+        written = print(out, written, step.answer);
         session = step.session;
-        from = next;
     }
     written
 }
 
 // Takes a line apart and obeys it.
+#[tactic(auto, unfolding(script_session::specs::SessionState::after_line))]
 fn one_line(
     language: Language,
     line: &[u8],
@@ -123,7 +120,9 @@ fn one_line(
         ≡ after_line (line_of language line.now)
         (session_state session screen.old stores.old) }
 {
-    let said = script_lines::parse(language, line, scratch);
+    let Some(said) = script_lines::parse(language, line, scratch) else {
+        return script_session::malformed(session);
+    };
     obey(said, screen, stores, scratch, session)
 }
 
@@ -136,7 +135,7 @@ fn obey(
     session: Session,
 ) -> LineStep
     ensures { reaction_of result screen.new stores.new
-        ≡ after_line (line_said said scratch.now)
+        ≡ after_line (line_said (Some said) scratch.now)
         (session_state session screen.old stores.old) }
 {
     if session.opened {

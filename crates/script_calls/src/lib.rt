@@ -28,7 +28,7 @@ fn make_call(
 {
     match call {
         Call::Put(address, count) => {
-            let n = count_within(count as usize, buffer);
+            let n = count_within(count, buffer);
             console::put(screen, stores, console, pane, address, &buffer[..n])
         }
         Call::Start(address) => console::start(screen, stores, console, pane, address),
@@ -43,6 +43,7 @@ fn make_call(
 }
 
 // A line after an accepted `o`: a call is lent the bytes in use, and any other line prints ?.
+#[tactic(auto, unfolding(script_session::specs::SessionState::after_line))]
 pub fn obey(
     said: Line,
     screen: &mut [u8],
@@ -52,7 +53,7 @@ pub fn obey(
 ) -> LineStep
     requires { session.opened ≡ true }
     ensures { reaction_of result screen.new stores.new
-        ≡ after_line (line_said said buffer.now)
+        ≡ after_line (line_said (Some said) buffer.now)
         (session_state session screen.old stores.old) }
 {
     let Line::Ask(letter, pane, call) = said else {

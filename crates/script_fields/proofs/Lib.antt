@@ -1,4 +1,4 @@
--- Laws of a text cut at a separator, and of the numbers and bytes that fields spell.
+-- Laws of the numbers and bytes that fields spell.
 pub mod NumberLaws
-pub mod PieceLaws
 pub mod ReadingLaws
+pub mod LineLaws

@@ -1,75 +1,97 @@
 -- Laws of a number read digit by digit.
-use mathlib.Core.Path.{◌≡◌, refl}
-use mathlib.Core.List.{List, [], ◌∷◌}
-use Prim.Native.Nat.{ℕ, ◌+◌, ◌*◌, ◌<◌}
-use native.Mathlib.Nat.{not-suc-le-zero}
-use native.Mathlib.Numerals.{add-one}
-use native.Mathlib.Omega.{arith}
-use lib.Dec.{ltb, leb}
-use lib.ListN.{length, get_or, drop}
-use lib.Seq.{drop-cons, drop-length}
-use borrow.Author.Tests.{leb-false}
-use Rattle.model.proofs.Decisions.{split}
-use Rattle.script_fields.specs.declared.Number.{Number}
-use Rattle.script_fields.specs.declared.Number.TheVariants.{Good, Bad}
-use Rattle.script_fields.specs.Numbers.{hex_base, digit_of, longer, extended, and_digits, spelled_number}
+use Rattle.std.proofs.Common.{◌≡◌, ℕ, ◌+◌, ◌*◌, ◌<◌, ◌≤◌, List, [], ◌∷◌, length, get_or, drop}
+use Rattle.std.proofs.Common.{Option, None, Some, option_and_then, refl, inl, inr, ap, sym, ◌∙◌, arith}
+use Rattle.std.proofs.lemmas.List.{at_drop_more, at_drop_all}
+use Rattle.std.proofs.lemmas.Option.{none-some, same_Some, option_and_then_some}
+use Rattle.std.proofs.lemmas.Bool.{cases_lt, lt-leb, le-leb, lt-ltb, le-ltb}
+use Rattle.script_fields.specs.Numbers.{hex_base, digit_of, good_number, longer, extended, and_digits, spelled_number}
 
--- what is bad stays so
-pub and_digits_bad : (base : ℕ) (l : List ℕ) → and_digits base l Bad ≡ Bad
-unfolding and_digits extended
-and_digits_bad base [] = refl
-and_digits_bad base (b ∷ l) = and_digits_bad base l
-
--- one digit taken
-pub and_digits_next :
-    (base v i : ℕ) (l : List ℕ) →
-    i < length l →
-    and_digits base (drop i l) (Good v) ≡ and_digits base (drop (i + 1) l) (longer v base (digit_of (get_or l i 0)))
-unfolding and_digits extended
-and_digits_next base v i l h = rw (add-one, drop-cons l i 0)
-
--- no digit left
-pub and_digits_end : (base v i : ℕ) (l : List ℕ) → i ≡ length l → and_digits base (drop i l) (Good v) ≡ Good v
-unfolding and_digits
-and_digits_end base v i l h = rw (h, drop-length)
-
--- a field of some digits
-pub spelled_number_some : (base : ℕ) (l : List ℕ) → 0 < length l → spelled_number base l ≡ and_digits base l (Good 0)
-unfolding spelled_number
-spelled_number_some base [] h = absurd (not-suc-le-zero h)
-spelled_number_some base (b ∷ l) h = refl
-
--- a field of none
-pub spelled_number_none : (base : ℕ) (l : List ℕ) → length l ≡ 0 → spelled_number base l ≡ Bad
+-- a field of no digit
+pub spelled_number_none : (base : ℕ) (l : List ℕ) → length l ≡ 0 → spelled_number base l ≡ None
 unfolding spelled_number
 spelled_number_none base [] h = refl
 spelled_number_none base (b ∷ l) h = absurd (omega arith)
 
--- ## A byte of two hex digits
+-- a field of some
+pub spelled_number_some : (base : ℕ) (l : List ℕ) → 0 < length l → spelled_number base l ≡ and_digits base l (Some 0)
+unfolding spelled_number
+spelled_number_some base [] h = absurd (omega arith)
+spelled_number_some base (b ∷ l) h = refl
 
--- what is bad is no number
-no_number : (n : ℕ) → Bad ≡ Good n → ⊥
-no_number n e = let z : ◌≡◌ {A = ℕ} 0 1 = cc in omega arith
+-- what is no number stays so
+pub and_digits_none : (base : ℕ) (l : List ℕ) → and_digits base l None ≡ None
+unfolding and_digits extended
+and_digits_none base [] = refl
+and_digits_none base (b ∷ l) = and_digits_none base l
 
--- a good number with one digit more is the sum, and the digit one of the base
-longer_good : (v base d n : ℕ) → longer v base d ≡ Good n → (d < base) × (n ≡ v * base + d)
+-- The digits that are left, from i on, taken to the number v.
+module _ (base v i : ℕ) (l : List ℕ) where
+  -- no digit left
+  pub and_digits_end : length l ≤ i → and_digits base (drop i l) (Some v) ≡ Some v
+  unfolding and_digits
+  and_digits_end h = at_drop_all (λ l. and_digits base l (Some v)) l i h
+
+  module _ (more : i < length l) where
+    next :
+        (d : Option ℕ) →
+        d ≡ digit_of (get_or l i 0) →
+        and_digits base (drop i l) (Some v) ≡ and_digits base (drop (i + 1) l) (option_and_then (longer v base) d)
+    unfolding and_digits extended
+    next d h =
+        at_drop_more (λ l. and_digits base l (Some v)) l i 0 more
+        ∙ ap (λ d. and_digits base (drop (i + 1) l) (option_and_then (longer v base) d)) (sym h)
+
+    -- a byte that is no digit
+    pub and_digits_other : None ≡ digit_of (get_or l i 0) → and_digits base (drop i l) (Some v) ≡ None
+    and_digits_other h = next None h ∙ and_digits_none base (drop (i + 1) l)
+
+    -- a digit taken
+    pub and_digits_next :
+        (d : ℕ) (n : Option ℕ) →
+        Some d ≡ digit_of (get_or l i 0) →
+        n ≡ longer v base d →
+        and_digits base (drop i l) (Some v) ≡ and_digits base (drop (i + 1) l) n
+    and_digits_next d n h e = next (Some d) h ∙ ap (and_digits base (drop (i + 1) l)) (sym e)
+
+    -- that makes no number
+    pub and_digits_past : (d : ℕ) → Some d ≡ digit_of (get_or l i 0) → None ≡ longer v base d → and_digits base (drop i l) (Some v) ≡ None
+    and_digits_past d h e = and_digits_next d None h e ∙ and_digits_none base (drop (i + 1) l)
+
+-- what a number read digit by digit cites
+pub ruleset digits_taken = (spelled_number_none, spelled_number_some, and_digits_other, and_digits_past, and_digits_end, and_digits_next)
+
+-- ## Two hex digits spell a byte
+
+in_32_bits : (m n : ℕ) → good_number m ≡ Some n → m ≡ n
+in_32_bits m n e =
+    elim (cases_lt 4294967295 m) [
+      | inl past ↦ absurd (none-some n (rw (lt-ltb 4294967295 m past) at e))
+      | inr fits ↦ same_Some m n (rw (le-ltb 4294967295 m fits) at e)
+    ]
+
+-- a number with a digit more
+longer_some : (v d n : ℕ) → longer v hex_base d ≡ Some n → n < (v + 1) * hex_base
 unfolding longer
-longer_good v base d n e =
-    split (leb base d)
-    (λ t. absurd (no_number n (rw t at e)))
-    (λ t. let sum = rw t at e in split (ltb 4294967295 (v * base + d))
-    (λ s. absurd (no_number n (rw s at sum)))
-    (λ s. let good = rw s at sum in (leb-false base d t, (cc))))
+longer_some v d n e =
+    elim (cases_lt d hex_base) [
+      | inl low ↦ (let same = in_32_bits (v * hex_base + d) n (rw (lt-leb hex_base d low) at e) in omega arith)
+      | inr past ↦ absurd (none-some n (rw (le-leb hex_base d past) at e))
+    ]
 
 -- a hex digit more
-extended_small : (m : Number) (b n most : ℕ) → ((v : ℕ) → m ≡ Good v → v < most) → extended hex_base m b ≡ Good n → n < most * hex_base
+extended_small : (m : Option ℕ) (b n most : ℕ) → ((v : ℕ) → m ≡ Some v → v < most) → extended hex_base m b ≡ Some n → n < most * hex_base
 unfolding extended
-extended_small Bad b n most h e = absurd (no_number n e)
-extended_small (Good v) b n most h e = let g = longer_good v hex_base (digit_of b) n e in omega (arith, h v refl)
+extended_small None b n most h e = absurd (none-some n e)
+extended_small (Some v) b n most h e =
+    option_and_then_some (longer v hex_base) (digit_of b) n e
+    (λ d _ l. let below = h v refl in let small = longer_some v d n l in omega arith)
 
 -- two of them
-pub spelled_number_byte : (x y n : ℕ) → spelled_number hex_base (x ∷ y ∷ []) ≡ Good n → n < 256
+pub spelled_number_byte : (digits : List ℕ) (n : ℕ) → length digits ≡ 2 → Some n ≡ spelled_number hex_base digits → n < 256
 unfolding spelled_number and_digits
-spelled_number_byte x y n =
-    extended_small (extended hex_base (Good 0) x) y n 16
-    (λ v. extended_small (Good 0) x v 1 (λ u e. let z : u ≡ 0 = (cc) in omega arith))
+spelled_number_byte (x ∷ y ∷ []) n two e =
+    extended_small (extended hex_base (Some 0) x) y n 16
+    (λ v. extended_small (Some 0) x v 1 (λ u q. let zero = same_Some 0 u q in omega arith)) (sym e)
+spelled_number_byte [] n two e = absurd (omega arith)
+spelled_number_byte (x ∷ []) n two e = absurd (omega arith)
+spelled_number_byte (x ∷ y ∷ z ∷ l) n two e = absurd (omega arith)

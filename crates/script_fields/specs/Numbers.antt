@@ -1,7 +1,6 @@
 -- The number that a field spells: at most 32 bits, digits in either case, leading zeros fine.
 use Rattle.std.specs.Prelude.{ℕ, ◌+◌, ◌-◌, ◌*◌, Bool, cond, ◌&&◌, List, [], ◌∷◌, ltb, leb}
-use Rattle.script_fields.specs.declared.Number.{Number}
-use Rattle.script_fields.specs.declared.Number.TheVariants.{Good, Bad}
+use Rattle.std.specs.Prelude.{Option, None, Some, option_and_then}
 
 -- the base of numbers; "hex addresses and bytes"
 abbrev pub decimal_base : ℕ
@@ -14,30 +13,31 @@ hex_base = 16
 abbrev pub in_range : ℕ → ℕ → ℕ → Bool
 in_range first last b = leb first b && leb b last
 
--- the value of a digit: `0` to `9`, `A` to `F`, `a` to `f`; 16, a digit of no base, for any other byte
-abbrev pub digit_of : ℕ → ℕ
+-- the value of a digit: `0` to `9`, `A` to `F`, `a` to `f`; any other byte is none
+abbrev pub digit_of : ℕ → Option ℕ
 digit_of b =
-    cond (in_range 48 57 b) (b - 48) (cond (in_range 65 70 b) (b - 65 + 10) (cond (in_range 97 102 b) (b - 97 + 10) 16))
+    cond (in_range 48 57 b) (Some (b - 48))
+    (cond (in_range 65 70 b) (Some (b - 65 + 10)) (cond (in_range 97 102 b) (Some (b - 97 + 10)) None))
 
 -- a number, unless it passes 32 bits
-abbrev pub good_number : ℕ → Number
-good_number n = cond (ltb 4294967295 n) Bad (Good n)
+abbrev pub good_number : ℕ → Option ℕ
+good_number n = cond (ltb 4294967295 n) None (Some n)
 
--- a number with one digit more: bad if that is no digit of the base
-unfoldable pub longer : ℕ → ℕ → ℕ → Number
-longer value base d = cond (leb base d) Bad (good_number (value * base + d))
+-- a number with one digit more: none if that is no digit of the base
+unfoldable pub longer : ℕ → ℕ → ℕ → Option ℕ
+longer value base d = cond (leb base d) None (good_number (value * base + d))
 
--- the same, of what is bad already too
-unfoldable pub extended : ℕ → Number → ℕ → Number
-extended base Bad b = Bad
-extended base (Good v) b = longer v base (digit_of b)
+-- the same by the digit's byte, where there is a number so far
+unfoldable pub extended : ℕ → Option ℕ → ℕ → Option ℕ
+extended base None b = None
+extended base (Some v) b = option_and_then (longer v base) (digit_of b)
 
 -- a number with all the digits of a list more
-unfoldable pub and_digits : ℕ → List ℕ → Number → Number
+unfoldable pub and_digits : ℕ → List ℕ → Option ℕ → Option ℕ
 and_digits base [] n = n
 and_digits base (b ∷ l) n = and_digits base l (extended base n b)
 
--- the number that a field spells; none at all is bad
-unfoldable pub spelled_number : ℕ → List ℕ → Number
-spelled_number base [] = Bad
-spelled_number base (b ∷ l) = and_digits base (b ∷ l) (Good 0)
+-- the number that a field spells; no digit at all spells none
+unfoldable pub spelled_number : ℕ → List ℕ → Option ℕ
+spelled_number base [] = None
+spelled_number base (b ∷ l) = and_digits base (b ∷ l) (Some 0)

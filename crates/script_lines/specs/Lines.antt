@@ -1,6 +1,5 @@
 -- What a line of a script says (01, "The script program").
-use Rattle.std.specs.Prelude.{ℕ, ◌≤◌, ◌≡◌, Bool, true, cond, not, ◌||◌, List, [], ◌∷◌, eqb, length, get_or, take}
-use Rattle.std.proofs.Math.Option.{Option, none, some}
+use Rattle.std.specs.Prelude.{ℕ, Bool, true, cond, not, ◌||◌, List, [], ◌∷◌, eqb, get_or, take, Option, None, Some}
 use Rattle.model.specs.declared.Geometry.{Geometry}
 use Rattle.model.specs.Calls.{Request, on}
 use Rattle.model.specs.Calls as calls
@@ -8,7 +7,6 @@ use Rattle.script_fields.specs.Numbers.{decimal_base, hex_base}
 use Rattle.script_fields.specs.Fields.{fields_of, field, spelled_bytes, line_numbers}
 use Rattle.script_lines.specs.declared.Language.{Language}
 use Rattle.script_lines.specs.declared.Language.TheVariants as language
-use Rattle.script_lines.specs.declared.Reading.{Reading}
 use Rattle.script_lines.specs.declared.Call as declared_call
 use Rattle.script_lines.specs.declared.Call.TheVariants as call
 use Rattle.script_lines.specs.declared.Line as declared
@@ -92,8 +90,8 @@ form n bases says = record { fields = n; bases = bases; says = says }
 
 -- a line of which some fields are to spell numbers, or one bytes
 abbrev pub spelled_line : Option (List ℕ) → (List ℕ → Line) → Line
-spelled_line none f = malformed
-spelled_line (some l) f = f l
+spelled_line None f = malformed
+spelled_line (Some l) f = f l
 
 -- the bases of an address on a pane
 abbrev pub pane_and_address : List ℕ
@@ -201,16 +199,6 @@ line_of language l = line_by_letter language (field (fields_of l) 0) (fields_of 
 
 -- ## The same as the code holds it: the bytes of a put stand at the start of a buffer
 
-abbrev pub reading_by : ℕ → List ℕ → ℕ → Reading
-reading_by fields bases count = record { fields = fields; bases = bases; count = count }
-
--- how a line of a form is read
-pub record ReadAs (f : Form) (r : Reading) : Type 0 where
-  pub fields : r.fields ≡ f.fields
-  pub bases : take r.count r.bases ≡ f.bases
-  pub count : r.count ≡ length f.bases
-  pub room : r.count ≤ 5
-
 abbrev pub call_said : declared_call.Call → List ℕ → calls.Call
 call_said (call.Put a n) buffer = calls.put a (take n buffer)
 call_said (call.Start a) buffer = calls.start a
@@ -222,9 +210,9 @@ call_said call.Clear buffer = calls.clear
 call_said (call.Judge a) buffer = calls.judge a
 call_said (call.Switch v) buffer = calls.switch v
 
-abbrev pub line_said : declared.Line → List ℕ → Line
-line_said (written.Screen g) buffer = sizing g
-line_said (written.Pane left top w h len) buffer = adding left top w h len
-line_said written.Open buffer = opening
-line_said (written.Ask letter p c) buffer = asking letter (on p (call_said c buffer))
-line_said written.Malformed buffer = malformed
+abbrev pub line_said : Option declared.Line → List ℕ → Line
+line_said None buffer = malformed
+line_said (Some (written.Screen g)) buffer = sizing g
+line_said (Some (written.Pane left top w h len)) buffer = adding left top w h len
+line_said (Some written.Open) buffer = opening
+line_said (Some (written.Ask letter p c)) buffer = asking letter (on p (call_said c buffer))

@@ -58,10 +58,6 @@ numeral_fewest base m n (suc k) h room few = numeral_digits base k m n h room fe
 
 -- ## A coordinate's text
 
--- one that is not negative: its pattern
-pub coordinate_plus : (p : ℕ) → p < 32768 → signed_text (coord p) ≡ decimal_text p
-coordinate_plus p h = rw (lt-ltb p 32768 h)
-
 -- a negative one: a minus, and what its pattern lacks of 65536
 pub coordinate_minus : (p : ℕ) → 32768 ≤ p → p < 65536 → signed_text (coord p) ≡ minus ∷ decimal_text (65536 - p)
 coordinate_minus p h l =

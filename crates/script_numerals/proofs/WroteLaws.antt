@@ -1,11 +1,10 @@
 -- Laws of text that was written to a buffer.
 use mathlib.Core.Path.{◌≡◌, refl, ap, sym, ◌∙◌}
 use mathlib.Core.List.{List, [], ◌∷◌, ◌++◌, append_assoc, append-nil}
-use Prim.Native.Nat.{ℕ, zero, suc, ◌+◌, ◌≤◌, ◌<◌}
-use native.Mathlib.Numerals.{add-one}
+use Prim.Native.Nat.{ℕ, zero, suc, ◌≤◌}
 use native.Mathlib.Omega.{arith}
-use lib.ListN.{length, get_or, take, set, length-append, length-set}
-use lib.Seq.{length-take-le, take_all, take_at, take-suc, take-suc-set}
+use lib.ListN.{length, take}
+use lib.Seq.{length-take-le, take_all}
 use Rattle.script_fields.specs.Fields.{comma}
 use Rattle.script_numerals.specs.Numerals.{comma_separated, Wrote}
 
@@ -33,36 +32,6 @@ Wrote-none a at h =
       bytes = rw append-nil (sym (take_all (length a) (take at a) (omega (arith, length-take-le at a h))));
     }
 
--- one byte, where there is room
-pub Wrote-byte : (a : List ℕ) (at byte : ℕ) → at < length a → Wrote a at (byte ∷ []) (set a at byte) (at + 1)
-Wrote-byte a at byte h =
-    let short : at ≤ length a = omega arith in
-    let fits : length (take at a ++ (byte ∷ [])) ≤ length a = simp (length-append, length-take-le at a short) (omega arith) in
-    record {
-      kept = length-set a at byte;
-      fits = omega arith;
-      bytes = rw (add-one, take-suc-set) (sym (take_all (length a) (take at a ++ (byte ∷ [])) fits));
-    }
-
--- a text for which there is no room
-pub Wrote-full : (a : List ℕ) (at : ℕ) (text : List ℕ) → at ≡ length a → Wrote a at text a at
-Wrote-full a at text h =
-    let all : at ≤ length a = omega arith in
-    record {
-      kept = refl;
-      fits = all;
-      bytes = sym (take_at (take at a) text (length a) (length-take-le at a all ∙ h));
-    }
-
--- one byte more of a text
-pub Wrote-next :
-    {a b c : List ℕ} {at end last : ℕ} (text : List ℕ) (i : ℕ) →
-    i < length text →
-    Wrote a at (take i text) b end →
-    Wrote b end (get_or text i 0 ∷ []) c last →
-    Wrote a at (take (i + 1) text) c last
-Wrote-next text i h v w = rw (add-one, take-suc text i 0) (Wrote-then v w)
-
 -- ## Values, each after a comma
 
 -- values one after the other
@@ -85,3 +54,6 @@ pub Wrote-values :
     Wrote b i (comma_separated t) c j →
     Wrote a at (comma_separated (s ++ t)) c j
 Wrote-values s t v w = rw comma_separated_append (Wrote-then v w)
+
+-- a text behind another
+pub ruleset written = (Wrote-value, Wrote-then)

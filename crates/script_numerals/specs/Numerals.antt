@@ -1,5 +1,6 @@
 -- Numbers as text, and text written to a buffer (01, "The script program").
-use Rattle.std.specs.Prelude.{ℕ, zero, suc, ◌/◌, ◌%◌, ◌≤◌, ◌≡◌, cond, List, [], ◌∷◌, ◌++◌, ltb, ℤ, pos, negsuc, length, take}
+use Rattle.std.specs.Prelude.{ℕ, zero, suc, ◌/◌, ◌%◌, ◌≤◌, ◌≡◌, cond, List, [], ◌∷◌, ◌++◌, ltb, length, take}
+use Rattle.std.specs.Prelude.{ℤ, pos, negsuc}
 use Rattle.io.specs.Digits.{hex_digit_ascii}
 use Rattle.script_fields.specs.Fields.{comma}
 
@@ -7,7 +8,8 @@ use Rattle.script_fields.specs.Fields.{comma}
 -- k + 1 of them
 unfoldable pub numeral : ℕ → ℕ → ℕ → List ℕ
 numeral base zero n = hex_digit_ascii n ∷ []
-numeral base (suc k) n = cond (ltb n base) (hex_digit_ascii n ∷ []) (numeral base k (n / base) ++ (hex_digit_ascii (n % base) ∷ []))
+numeral base (suc k) n =
+    cond (ltb n base) (hex_digit_ascii n ∷ []) (numeral base k (n / base) ++ (hex_digit_ascii (n % base) ∷ []))
 
 -- 64 bits have at most twenty decimal digits
 abbrev pub decimal_text : ℕ → List ℕ

@@ -27,15 +27,14 @@ fn append(out: &mut [u8], at: usize, bytes: &[u8]) -> usize
     ensures { Wrote out.old at bytes.now out.new result }
 {
     let mut end = at;
-    let mut i = 0;
-    while i < bytes.len() {
-        end = push(out, end, bytes[i]);
-        i += 1;
+    for byte in bytes {
+        end = push(out, end, *byte);
     }
     end
 }
 
 // Writes a decimal number, without a comma before it.
+#[tactic(auto, using(crate::proofs::NumeralLaws::numeral_fewest))]
 fn decimal(out: &mut [u8], at: usize, n: u64) -> usize
     requires { at ≤ length out.old }
     ensures { Wrote out.old at (decimal_text n) out.new result }
@@ -46,6 +45,7 @@ fn decimal(out: &mut [u8], at: usize, n: u64) -> usize
 }
 
 // Writes a comma and a decimal number.
+#[tactic(auto, using(crate::proofs::WroteLaws::written))]
 pub fn value(out: &mut [u8], at: usize, n: u64) -> usize
     requires { at ≤ length out.old }
     ensures { Wrote out.old at (comma_separated (decimal_text n ∷ [])) out.new result }
@@ -55,13 +55,14 @@ pub fn value(out: &mut [u8], at: usize, n: u64) -> usize
 }
 
 // Writes a comma and a hex number.
+#[tactic(auto, using(crate::proofs::NumeralLaws::numeral_fewest, crate::proofs::WroteLaws::written))]
 pub fn pointer(out: &mut [u8], at: usize, n: u32) -> usize
     requires { at ≤ length out.old }
     ensures { Wrote out.old at (comma_separated (hex_text n ∷ [])) out.new result }
 {
     let after = push(out, at, COMMA);
     let mut digits = [0u8; 16];
-    let k = io::hex(n as u64, 1, &mut digits);
+    let k = io::hex(u64::from(n), 1, &mut digits);
     append(out, after, &digits[..k])
 }
 
@@ -71,7 +72,7 @@ pub fn coordinate(out: &mut [u8], at: usize, pattern: u16) -> usize
     ensures { Wrote out.old at (comma_separated (signed_text (coord pattern) ∷ []))
         out.new result }
 {
-    let n = pattern as u64;
+    let n = u64::from(pattern);
     if n < 0x8000 {
         return value(out, at, n);
     }
@@ -85,5 +86,5 @@ pub fn flag(out: &mut [u8], at: usize, set: bool) -> usize
     requires { at ≤ length out.old }
     ensures { Wrote out.old at (comma_separated (decimal_text (digit set) ∷ [])) out.new result }
 {
-    value(out, at, set as u64)
+    value(out, at, u64::from(set))
 }

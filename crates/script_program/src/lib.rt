@@ -34,7 +34,9 @@ pub fn answer_all<R: Read, W: Write>(
     writer.write_all(&replies[..written])
 }
 
-// Reads until a buffer is full or the input ends, and answers how many bytes stand at its start.
+// Reads until a buffer is full or the input ends, and answers how many bytes stand at its start. No method of `Read`
+// does so: `read_exact` fails where the input ends before, and what `io::copy` counts is bounded only where the
+// reader's bytes are known.
 pub fn read_full<R: Read>(reader: &mut R, buffer: &mut [u8]) -> io::Result<usize>
     ensures bound { ReadsAtMost result buffer.new }
     ensures bytes { IfOk result (λ n. Consumes (R.remaining reader.old) (R.remaining reader.new) (take n buffer.new)) }

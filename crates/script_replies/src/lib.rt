@@ -3,11 +3,12 @@
 #![tactic(auto)]
 
 ghost use Rattle.std.specs.Prelude.{◌≤◌, length};
-ghost use Rattle.model.specs.Replies.{ran_values, progress_values, view_values, verdict_values, response};
+ghost use Rattle.model.specs.Replies.{ran_values, progress_values, view_values, verdict, verdict_values, reply_values};
+ghost use Rattle.model.specs.Replies.{response};
 ghost use Rattle.script_numerals.specs.Numerals.{Wrote};
 ghost use Rattle.script_replies.specs.Replies.{values_text, response_text, reply_text, malformed_text};
 
-use model::{Progress, Ran, Reply, Verdict, View};
+use model::{FoundFault, Progress, Ran, Refusal, Reply, View};
 use script_fields::LINE_FEED;
 use script_numerals::{coordinate, flag, pointer, push, value};
 
@@ -49,51 +50,52 @@ fn seen(out: &mut [u8], at: usize, view: View) -> usize
 }
 
 // The values of judge: 0 and the commands walked, or a fault's number and its address.
-fn judged(out: &mut [u8], at: usize, verdict: Verdict) -> usize
+fn judged(out: &mut [u8], at: usize, found: Result<u32, FoundFault>) -> usize
     requires { at ≤ length out.old }
-    ensures { Wrote out.old at (values_text (verdict_values verdict)) out.new result }
+    ensures { Wrote out.old at (values_text (verdict_values (verdict found))) out.new result }
 {
-    match verdict {
-        Verdict::Clean(walked) => {
+    match found {
+        Ok(walked) => {
             let clean = value(out, at, 0);
             value(out, clean, walked as u64)
         }
-        Verdict::Found(fault, address) => {
-            let found = value(out, at, fault as u64);
-            pointer(out, found, address)
+        Err(met) => {
+            let found = value(out, at, u8::from(met.fault) as u64);
+            pointer(out, found, met.address)
         }
+    }
+}
+
+// The values of an accepted call.
+fn accepted(out: &mut [u8], at: usize, reply: Reply) -> usize
+    requires { at ≤ length out.old }
+    ensures { Wrote out.old at (values_text (reply_values reply)) out.new result }
+{
+    match reply {
+        Reply::Done => at,
+        Reply::Ran(r) => ran(out, at, r),
+        Reply::Seen(view) => seen(out, at, view),
+        Reply::Value(pixel) => value(out, at, pixel as u64),
+        Reply::Judged(found) => judged(out, at, found),
     }
 }
 
 // The refusal's number, or 0 and the values.
-fn values(out: &mut [u8], at: usize, reply: Reply) -> usize
+fn values(out: &mut [u8], at: usize, said: Result<Reply, Refusal>) -> usize
     requires { at ≤ length out.old }
-    ensures { Wrote out.old at (response_text (response reply)) out.new result }
+    ensures { Wrote out.old at (response_text (response said)) out.new result }
 {
-    match reply {
-        Reply::Refused(number) => value(out, at, number as u64),
-        Reply::Done => value(out, at, 0),
-        Reply::Ran(r) => {
+    match said {
+        Ok(reply) => {
             let zero = value(out, at, 0);
-            ran(out, zero, r)
+            accepted(out, zero, reply)
         }
-        Reply::Seen(view) => {
-            let zero = value(out, at, 0);
-            seen(out, zero, view)
-        }
-        Reply::Value(pixel) => {
-            let zero = value(out, at, 0);
-            value(out, zero, pixel as u64)
-        }
-        Reply::Judged(verdict) => {
-            let zero = value(out, at, 0);
-            judged(out, zero, verdict)
-        }
+        Err(refusal) => value(out, at, u8::from(refusal) as u64),
     }
 }
 
 // The line of a reply.
-pub fn reply(out: &mut [u8], at: usize, letter: u8, said: Reply) -> usize
+pub fn reply(out: &mut [u8], at: usize, letter: u8, said: Result<Reply, Refusal>) -> usize
     requires { at ≤ length out.old }
     ensures { Wrote out.old at (reply_text letter (response said)) out.new result }
 {

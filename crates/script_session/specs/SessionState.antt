@@ -1,5 +1,6 @@
 -- What a script has said so far, and what a line does to it (01, "The script program").
-use Rattle.std.specs.Prelude.{ℕ, ◌+◌, Bool, true, false, cond, not, ◌||◌, List, ◌++◌, ltb, leb, take, drop, set, replicate}
+use Rattle.std.specs.Prelude.{ℕ, ◌+◌, Bool, true, false, cond, not, ◌||◌, ltb, leb}
+use Rattle.std.specs.Prelude.{List, ◌++◌, take, drop, set, replicate}
 use Rattle.model.specs.declared.Geometry.{Geometry}
 use Rattle.model.specs.declared.Row.{Row}
 use Rattle.model.specs.declared.Console.{Console}

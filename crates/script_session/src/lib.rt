@@ -7,7 +7,7 @@ ghost use Rattle.io.specs.Counts.{IsPrefixLen};
 ghost use Rattle.script_session.specs.SessionState.{new_session, line_step, with_console};
 ghost use Rattle.script_session.specs.declared.LineAnswer.TheVariants as answer;
 
-use model::{Console, Geometry, Reply, Row};
+use model::{Console, Geometry, Refusal, Reply, Row};
 
 // The largest screen and the largest stores, in bytes.
 pub const MOST_SCREEN: usize = 32_768;
@@ -28,12 +28,13 @@ pub struct Session {
     pub stores: u32,
 }
 
-// What a line comes to: a ?, nothing to print, or a letter's reply.
+// What a line comes to: a ?, nothing to print, or a letter's reply. Each prints something else, so `Option` in `Result`
+// would be no plainer.
 #[derive(Clone, Copy)]
 pub enum LineAnswer {
     Malformed,
     Taken,
-    Replied(u8, Reply),
+    Replied(u8, Result<Reply, Refusal>),
 }
 
 // The session after a line, and what the line comes to.
@@ -48,10 +49,7 @@ pub fn count_within(n: usize, buffer: &[u8]) -> usize
     ensures within { IsPrefixLen result buffer.now }
     ensures least { result ≡ min n (length buffer.now) }
 {
-    if buffer.len() < n {
-        return buffer.len();
-    }
-    n
+    n.min(buffer.len())
 }
 
 // A line that prints ? and does nothing.
@@ -87,35 +85,34 @@ pub fn replied(session: Session, letter: u8, answered: call_common::Answered) ->
     }
 }
 
-// A session in which nothing was said: a console record without rows.
-pub fn new_session() -> Session
-    ensures { result ≡ new_session }
-{
-    let row = Row {
-        left: 0,
-        top: 0,
-        width: 0,
-        height: 0,
-        start: 0,
-        len: 0,
-    };
-    let rows = [row; 8];
-    let pane = call_common::fresh();
-    let panes = [pane; 8];
-    Session {
-        console: Console {
-            geometry: Geometry {
-                width: 0,
-                height: 0,
-                depth: 0,
+// Nothing was said: a console record without rows.
+impl Default for Session {
+    ghost is_default = { λ session. session ≡ new_session };
+
+    fn default() -> Session {
+        let row = Row {
+            left: 0,
+            top: 0,
+            width: 0,
+            height: 0,
+            start: 0,
+            len: 0,
+        };
+        Session {
+            console: Console {
+                geometry: Geometry {
+                    width: 0,
+                    height: 0,
+                    depth: 0,
+                },
+                count: 0,
+                rows: [row; MOST_PANES],
+                panes: [call_common::fresh(); MOST_PANES],
             },
-            count: 0,
-            rows,
-            panes,
-        },
-        sized: false,
-        opened: false,
-        screen: 0,
-        stores: 0,
+            sized: false,
+            opened: false,
+            screen: 0,
+            stores: 0,
+        }
     }
 }

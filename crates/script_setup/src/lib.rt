@@ -1,7 +1,7 @@
 // The lines before the calls obeyed: `s`, the screen; `p`, a pane; `o`, set-up.
 #![tactic(auto)]
 
-ghost use Rattle.std.specs.Prelude.{◌≡◌, false, List, ℕ, ◌*◌};
+ghost use Rattle.std.specs.Prelude.{◌≡◌, false, List, ℕ};
 ghost use Rattle.model.specs.Setup.{screen_bytes};
 ghost use Rattle.model.specs.Replies.{response};
 ghost use Rattle.script_lines.specs.Lines.{sizing, adding, opening, line_said, letter_open};
@@ -10,39 +10,31 @@ ghost use Rattle.script_session.specs.SessionState.{after_set_up, after_line};
 ghost use Rattle.script_session.specs.declared.LineAnswer.TheVariants as answer;
 ghost use Rattle.script_setup.specs.Sizes.{SizeAs};
 
-use model::{Geometry, Reply, Row};
+use model::{Geometry, Row};
 use script_lines::{Line, OPEN};
 use script_session::{
     LineStep, MOST_PANES, MOST_SCREEN, MOST_STORES, Session, count_within, malformed, replied,
     taken,
 };
 
-// The bytes of so many rows of so many words each, or a number above the limit if they pass it.
-fn rows_bytes(height: u32, words: usize) -> usize
-    ensures { SizeAs (2 * (height * words)) result }
-{
-    if words > MOST_SCREEN {
-        return 2 * ((height as usize) * (MOST_SCREEN + 1));
-    }
-    2 * ((height as usize) * words)
-}
-
 // The bytes that the screen's rows take, or a number above the limit if they pass it.
 fn screen_bytes(g: Geometry) -> usize
     ensures { SizeAs (screen_bytes g) result }
 {
     let bits = (g.width as usize) * (g.depth as usize);
-    rows_bytes(g.height, (bits + 15) / 16)
+    let words = bits.div_ceil(16).min(MOST_SCREEN + 1);
+    2 * ((g.height as usize) * words)
 }
 
 // The line `s` with a geometry: taken if its rows keep to the limit, unless there is one already.
+#[tactic(auto, unfolding(script_session::specs::SessionState::after_line))]
 fn take_screen(session: Session, geometry: Geometry) -> LineStep
     requires { session.opened ≡ false }
     ensures { (screen stores : List ℕ) → reaction_of result screen stores
         ≡ after_line (sizing geometry) (session_state session screen stores) }
 {
     let bytes = screen_bytes(geometry);
-    if session.sized | (bytes > MOST_SCREEN) {
+    if session.sized || bytes > MOST_SCREEN {
         return malformed(session);
     }
     let mut console = session.console;
@@ -57,6 +49,7 @@ fn take_screen(session: Session, geometry: Geometry) -> LineStep
 
 // The line `p`: taken as the table's next row if its store keeps to the limit. Its store begins where the one
 // before ends.
+#[tactic(auto, unfolding(script_session::specs::SessionState::after_line))]
 fn take_pane(session: Session, left: u32, top: u32, width: u32, height: u32, len: u32) -> LineStep
     requires { session.opened ≡ false }
     ensures { (screen stores : List ℕ) → reaction_of result screen stores
@@ -64,7 +57,7 @@ fn take_pane(session: Session, left: u32, top: u32, width: u32, height: u32, len
 {
     let k = session.console.count as usize;
     let total = (session.stores as usize) + (len as usize);
-    if (k >= MOST_PANES) | (total > MOST_STORES) {
+    if k >= MOST_PANES || total > MOST_STORES {
         return malformed(session);
     }
     let mut console = session.console;
@@ -76,7 +69,7 @@ fn take_pane(session: Session, left: u32, top: u32, width: u32, height: u32, len
         start: session.stores,
         len,
     };
-    console.count = k as u32 + 1;
+    console.count += 1;
     taken(Session {
         console,
         stores: total as u32,
@@ -89,10 +82,8 @@ fn after_set_up(session: Session, answered: call_common::Answered) -> LineStep
     ensures { result ≡ line_step (with_console (after_set_up session (response answered.reply)) answered.console)
         (answer.Replied letter_open answered.reply) }
 {
-    let reply = answered.reply;
-    match reply {
-        Reply::Refused(_) => replied(session, OPEN, answered),
-        _ => replied(
+    match answered.reply {
+        Ok(_) => replied(
             Session {
                 opened: true,
                 ..session
@@ -100,10 +91,12 @@ fn after_set_up(session: Session, answered: call_common::Answered) -> LineStep
             OPEN,
             answered,
         ),
+        Err(_) => replied(session, OPEN, answered),
     }
 }
 
 // The line `o`: set-up of what the lines before it said.
+#[tactic(auto, unfolding(script_session::specs::SessionState::after_line))]
 fn open(screen: &[u8], stores: &[u8], session: Session) -> LineStep
     requires { session.opened ≡ false }
     ensures { reaction_of result screen.now stores.now
@@ -121,10 +114,11 @@ fn open(screen: &[u8], stores: &[u8], session: Session) -> LineStep
 }
 
 // A line before an accepted `o`: a call prints ?.
+#[tactic(auto, unfolding(script_session::specs::SessionState::after_line))]
 pub fn obey(said: Line, screen: &[u8], stores: &[u8], session: Session) -> LineStep
     requires { session.opened ≡ false }
     ensures { (buffer : List ℕ) → reaction_of result screen.now stores.now
-        ≡ after_line (line_said said buffer) (session_state session screen.now stores.now) }
+        ≡ after_line (line_said (Some said) buffer) (session_state session screen.now stores.now) }
 {
     match said {
         Line::Screen(geometry) => take_screen(session, geometry),
@@ -136,7 +130,6 @@ pub fn obey(said: Line, screen: &[u8], stores: &[u8], session: Session) -> LineS
             len,
         } => take_pane(session, left, top, width, height, len),
         Line::Open => open(screen, stores, session),
-        Line::Ask(_, _, _) => malformed(session),
-        Line::Malformed => malformed(session),
+        Line::Ask(..) => malformed(session),
     }
 }

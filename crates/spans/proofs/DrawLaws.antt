@@ -26,7 +26,7 @@ use Rattle.coordinates.specs.declared.Edges.{Edges}
 use Rattle.coordinates.proofs.EdgeLaws.{within_true, within_early, within_late, unbiased_on, unbiased_back, between_on, between_back, between_holds}
 use Rattle.canvas.specs.declared.Target.{Target}
 use Rattle.canvas.specs.Targets.{Ready}
-use Rattle.canvas.specs.Canvas.{Canvas, canvas, painted, painted_all}
+use Rattle.canvas.specs.Canvas.{Canvas, canvas, painted, painted_all, Painted}
 use Rattle.canvas.proofs.BufferLaws.{buffer_length, screen_painted, store_painted}
 use Rattle.strips.specs.Strokes.{shown, pattern_on}
 use Rattle.strips.specs.Stretches.{Stretched}
@@ -45,7 +45,7 @@ use Rattle.strips.proofs.HitLaws.{shown_cong, shown_from, shown_le}
 use Rattle.strips.proofs.SpanLaws.{right_phase, left_phase, span_stretched, pattern_hits}
 use Rattle.spans.specs.declared.Span.{Span}
 use Rattle.spans.specs.Through.{Short, StencilFor}
-use Rattle.spans.specs.Spans.{span_place, span_dot, span_dots, EdgesOf, Met, Strung, Reached, leftmost_of, phase_of, span_changed}
+use Rattle.spans.specs.Spans.{span_place, span_dot, span_dots, EdgesOf, Met, Strung, Reached, leftmost_of, phase_of, span_changed, Pending}
 
 -- ## A pattern's 1s
 
@@ -389,13 +389,13 @@ dots_painted t ds screen store before count h p {screen'} {store'} a b = split t
     (λ o. ap (λ (l : List ℕ). canvas l store' (before + count)) (a ∙ cond_false _ _ o)
     ∙ store_painted t ds screen store before count h p o (b ∙ cond_false _ _ o))
 
--- .. and after the visible part of a span is
-pub part_painted : (t : Target) (s : Span) (screen store : List ℕ) (before count : ℕ) → hits t.area.surface t.clip (span_dots t.pen s) ≡ count
-    → t.picking ≡ false → {screen' store' : List ℕ} → screen' ≡ cond t.area.onscreen (span_changed t s screen) screen
-    → store' ≡ cond t.area.onscreen store (span_changed t s store)
-    → canvas screen' store' (before + count) ≡ painted_all t (span_dots t.pen s) (canvas screen store before)
-unfolding span_changed
-part_painted t s screen store before count h p a b = dots_painted t (span_dots t.pen s) screen store before count h p a b
+-- .. and after those that were still to be drawn are
+pub pending_painted : {P : Edges → Type 0} {t : Target} {ds : List Dot} {before seen : ℕ} {e : Edges} → Pending P t ds before seen e
+    → (screen store : List ℕ) {screen' store' : List ℕ}
+    → screen' ≡ cond t.area.onscreen (changes t.area.surface (changes_of t.area.surface t.clip t.pen ds) screen) screen
+    → store' ≡ cond t.area.onscreen store (changes t.area.surface (changes_of t.area.surface t.clip t.pen ds) store)
+    → Painted t ds (canvas screen store before) (canvas screen' store' seen)
+pending_painted {t = t} {ds = ds} {before = before} p screen store a b = rw p.count (dots_painted t ds screen store before _ refl p.drawing a b)
 
 -- at most all of a span's pixels are visible
 pub seen_most : (t : Bool) (on : ℕ → Bool) (i n : ℕ) → cond t (shown on i n) n ≤ n

@@ -4,13 +4,12 @@ use mathlib.Core.Bool.{false, ◌&&◌}
 use Prim.Native.Nat.{ℕ, ◌+◌, ◌≤◌, ◌<◌}
 use native.Mathlib.Decide.{dec_lt}
 use native.Mathlib.Omega.{arith}
-use borrow.Author.Tests.{le-leb, lt-leb}
+use borrow.Author.Tests.{le-leb}
 use lib.Dec.{leb, ltb}
-use Rattle.model.specs.Coordinates.{between}
 use Rattle.model.specs.Dots.{lies}
 use Rattle.model.specs.declared.Clip.{Clip}
 use Rattle.model.specs.declared.Surface.{Surface}
-use Rattle.model.proofs.Decisions.{holds, both_of, and_false, and_true, and_left}
+use Rattle.model.proofs.Decisions.{holds, both_of, and_true}
 use Rattle.model.proofs.DotLaws.{lies_clip}
 use Rattle.coordinates.specs.Offsets.{unbiased, Between}
 use Rattle.coordinates.specs.declared.Edges.{Edges}
@@ -39,18 +38,6 @@ module _ (u : Surface) (c : Clip) (wide : c.xmax < u.width) (high : c.ymax < u.h
         | yes h ↦ within_early e.first i e.second h
         | no h ↦ within_late e.first i e.second (omega arith)
       ]
-
-  -- its row lies outside the clip
-  row_outside : between c.ymin c.ymax (unbiased s.y) ≡ false → EdgesOf u c s (record { first = 0; second = 0 })
-  row_outside o = edges_are (record { first = 0; second = 0 })
-      (λ i l. lies_clip u c wide high (span_place s i) ∙ and_false (between c.xmin c.xmax (span_place s i).x) _ o ∙ sym (within_late 0 i 0 (omega arith)))
-      (omega arith) (omega arith)
-
-  pub row_above : s.y < c.ymin + 65536 → EdgesOf u c s (record { first = 0; second = 0 })
-  row_above h = row_outside (between_unbiased c.ymin c.ymax s.y ∙ and_left _ _ (lt-leb _ s.y h))
-
-  pub row_below : c.ymax + 65536 < s.y → EdgesOf u c s (record { first = 0; second = 0 })
-  row_below h = row_outside (between_unbiased c.ymin c.ymax s.y ∙ and_false (leb (c.ymin + 65536) s.y) _ (lt-leb s.y _ h))
 
   -- its row lies in the clip: the columns' edges are the span's
   pub row_inside : c.ymin + 65536 ≤ s.y → s.y ≤ c.ymax + 65536 → (e : Edges)

@@ -1,15 +1,17 @@
 -- Horizontal runs of pixels (02, A.3), here spans: where their pixels lie, what they are drawn with, and which
 -- of them lie in bitmap and clip.
-use Rattle.std.specs.Prelude.{◌≡◌, Bool, true, false, cond, ◌&&◌, List, ℕ, ◌+◌, ◌-◌, ◌%◌, ◌^◌, ◌≤◌, ◌<◌, leb, ltb, ◌+ℤ◌}
+use Rattle.std.specs.Prelude.{◌≡◌, Bool, true, false, cond, ◌&&◌, List, Option, Some, None}
+use Rattle.std.specs.Prelude.{ℕ, ◌+◌, ◌-◌, ◌%◌, ◌^◌, ◌≤◌, ◌<◌, leb, ltb, ◌+ℤ◌}
 use Rattle.model.specs.Ranges.{listed}
 use Rattle.model.specs.Coordinates.{Place, at}
 use Rattle.model.specs.Pixels.{changes, pattern_source}
-use Rattle.model.specs.Dots.{Dot, dot, lies, changes_of}
+use Rattle.model.specs.Dots.{Dot, dot, lies, hits, changes_of}
 use Rattle.model.specs.declared.Clip.{Clip}
 use Rattle.model.specs.declared.Pen.{Pen}
 use Rattle.model.specs.declared.Surface.{Surface}
 use Rattle.coordinates.specs.Offsets.{directed, unbiased}
 use Rattle.coordinates.specs.declared.Edges.{Edges}
+use Rattle.canvas.specs.Canvas.{canvas, Painted}
 use Rattle.canvas.specs.declared.Target.{Target}
 use Rattle.strips.specs.Strips.{Reversed, Woven}
 use Rattle.spans.specs.declared.Span.{Span}
@@ -86,3 +88,18 @@ phase_of s e c =
 unfoldable pub span_changed : Target → Span → List ℕ → List ℕ
 span_changed t s buffer =
     changes t.area.surface (changes_of t.area.surface t.clip t.pen (span_dots t.pen s)) buffer
+
+-- ## What is to be drawn of dots in a row
+
+-- the visible dots are counted, and those between edges that P tells of are still to be drawn
+pub record Pending (P : Edges → Type 0) (t : Target) (ds : List Dot) (before seen : ℕ) (e : Edges) : Type 0 where
+  pub edges : P e
+  pub some : e.first < e.second
+  pub count : seen ≡ before + hits t.area.surface t.clip ds
+  pub drawing : t.picking ≡ false
+
+-- .. or nothing is to be drawn: none is visible, or the mode is pick
+abbrev pub Sighted : (Edges → Type 0) → Target → List Dot → ℕ → ℕ → Option Edges → Type 0
+Sighted P t ds before seen None =
+    (screen store : List ℕ) → Painted t ds (canvas screen store before) (canvas screen store seen)
+Sighted P t ds before seen (Some e) = Pending P t ds before seen e

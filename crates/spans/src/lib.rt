@@ -8,7 +8,7 @@ ghost use Rattle.raster.specs.Operations.{truth_of};
 ghost use Rattle.canvas.specs.Canvas.{canvas, count_end, Painted};
 ghost use Rattle.canvas.specs.Targets.{Ready};
 ghost use Rattle.strips.specs.Strokes.{shown, pattern_on};
-ghost use Rattle.spans.specs.Spans.{Bounded, EdgesOf, Strung, index_end, longest_span, span_dots};
+ghost use Rattle.spans.specs.Spans.{Bounded, EdgesOf, Sighted, Strung, index_end, longest_span, span_dots};
 ghost use Rattle.spans.specs.Spans.{Reached, leftmost_of, phase_of, span_changed};
 ghost use Rattle.spans.specs.Examples.{Worked};
 ghost use Rattle.spans.specs.Through.{Short, StencilFor};
@@ -36,13 +36,7 @@ pub fn edges_of(t: Target, s: Span) -> Edges
     ensures { EdgesOf t.area.surface t.clip s result }
 {
     let clip = t.clip;
-    if s.y < clip.ymin as usize + 65536 {
-        return Edges {
-            first: 0,
-            second: 0,
-        };
-    }
-    if s.y > clip.ymax as usize + 65536 {
+    if s.y < clip.ymin as usize + 65536 || s.y > clip.ymax as usize + 65536 {
         return Edges {
             first: 0,
             second: 0,
@@ -61,13 +55,12 @@ pub fn strips_of(t: Target, left: bool) -> [u8; 514]
     requires { Depth t.area.surface.bits × (t.truth ≡ truth_of t.pen.op) }
     ensures { Strung t left result }
 {
-    let area = t.area;
-    let surface = area.surface;
-    let pen = t.pen;
-    if left {
-        return strips::woven(pen, t.truth, strips::reversed(pen.pattern), surface.bits);
-    }
-    strips::woven(pen, t.truth, pen.pattern, surface.bits)
+    let pattern = if left {
+        strips::reversed(t.pen.pattern)
+    } else {
+        t.pen.pattern
+    };
+    strips::woven(t.pen, t.truth, pattern, t.area.surface.bits)
 }
 
 // The column of the visible part's first pixel, from the left.
@@ -76,9 +69,10 @@ fn leftmost(s: Span, e: Edges) -> usize
     ensures { result ≡ leftmost_of s e }
 {
     if s.left {
-        return s.x + 1 - e.second - 65536;
+        s.x + 1 - e.second - 65536
+    } else {
+        s.x + e.first - 65536
     }
-    s.x + e.first - 65536
 }
 
 // The pattern's index at the first column of the row, where the visible part begins at column c of it.
@@ -87,10 +81,10 @@ fn phase_of(s: Span, e: Edges, c: usize) -> usize
     ensures { (result ≡ phase_of s e c) × (result < 16) }
 {
     if s.left {
-        return (31 - (s.index + e.second - 1) % 16 - c % 16) % 16;
+        (31 - (s.index + e.second - 1) % 16 - c % 16) % 16
+    } else {
+        (s.index + e.first + 16 - c % 16) % 16
     }
-    let hidden = e.first;
-    (s.index + hidden + 16 - c % 16) % 16
 }
 
 // How many of n pixels from a pattern index on are drawn.
@@ -99,9 +93,10 @@ pub fn seen_of(pen: Pen, index: usize, n: usize) -> usize
     ensures { result ≡ cond pen.transparent (shown (pattern_on pen.pattern) index n) n }
 {
     if pen.transparent {
-        return strips::counted(pen.pattern, index % 16, n);
+        strips::counted(pen.pattern, index % 16, n)
+    } else {
+        n
     }
-    n
 }
 
 // The visible part of a span drawn: its first and last bit in its row, and the row's first byte, are worked out
@@ -113,18 +108,35 @@ fn draw_part(screen: &mut [u8], store: &mut [u8], strips: &[u8], t: Target, s: S
         (span_changed t s screen.old) screen.old)
         × (store.new ≡ cond t.area.onscreen store.old (span_changed t s store.old)) }
 {
-    let area = t.area;
-    let u = area.surface;
+    let u = t.area.surface;
     let x = leftmost(s, e);
     let phase = phase_of(s, e, u.left + x);
     let row = u.base + 2 * (u.words * (u.top + (s.y - 65536)));
     let lo = (u.left + x) * u.bits;
     let hi = lo + (e.second - e.first) * u.bits;
-    if area.onscreen {
+    // Called in each branch: for a `&mut` that is one of two, no proof is generated.
+    if t.area.onscreen {
         strips::stretch(screen, strips, phase, row, lo, hi);
     } else {
         strips::stretch(store, strips, phase, row, lo, hi);
     }
+}
+
+// Hits and how many of a span's pixels are visible, and the edges of what is to be drawn, if anything is.
+fn sighted(t: Target, s: Span, hits: usize) -> (usize, Option<Edges>)
+    requires { (t.clip.xmax < t.area.surface.width) × (t.clip.ymax < t.area.surface.height)
+        × Bounded s × (hits + longest_span < count_end) }
+    ensures { Sighted (EdgesOf t.area.surface t.clip s) t (span_dots t.pen s) hits result.0 result.1 }
+{
+    let e = edges_of(t, s);
+    if e.first == e.second {
+        return (hits, None);
+    }
+    let seen = hits + seen_of(t.pen, s.index + e.first, e.second - e.first);
+    if t.picking {
+        return (seen, None);
+    }
+    (seen, Some(e))
 }
 
 // A span drawn by the strips of its direction: hits and how many of its pixels are visible.
@@ -141,15 +153,10 @@ pub fn draw_span(
     ensures { Painted t (span_dots t.pen s)
         (canvas screen.old store.old hits) (canvas screen.new store.new result) }
 {
-    let e = edges_of(t, s);
-    if e.first == e.second {
-        return hits;
+    let (seen, part) = sighted(t, s, hits);
+    if let Some(e) = part {
+        draw_part(screen, store, strips, t, s, e);
     }
-    let seen = hits + seen_of(t.pen, s.index + e.first, e.second - e.first);
-    if t.picking {
-        return seen;
-    }
-    draw_part(screen, store, strips, t, s, e);
     seen
 }
 
@@ -159,16 +166,11 @@ pub fn draw_alone(screen: &mut [u8], store: &mut [u8], t: Target, s: Span, hits:
     ensures { Painted t (span_dots t.pen s)
         (canvas screen.old store.old hits) (canvas screen.new store.new result) }
 {
-    let e = edges_of(t, s);
-    if e.first == e.second {
-        return hits;
+    let (seen, part) = sighted(t, s, hits);
+    if let Some(e) = part {
+        let strips = strips_of(t, s.left);
+        draw_part(screen, store, &strips, t, s, e);
     }
-    let seen = hits + seen_of(t.pen, s.index + e.first, e.second - e.first);
-    if t.picking {
-        return seen;
-    }
-    let strips = strips_of(t, s.left);
-    draw_part(screen, store, &strips, t, s, e);
     seen
 }
 
@@ -177,8 +179,7 @@ pub fn stencil_for(t: Target, s: Span, e: Edges) -> Stencil
     requires { Short t s e }
     ensures { StencilFor t s e result }
 {
-    let area = t.area;
-    let u = area.surface;
+    let u = t.area.surface;
     let bits = u.bits;
     let c = u.left + leftmost(s, e);
     let lo = c * bits;

@@ -3,13 +3,13 @@ use mathlib.Core.Path.{◌≡◌, refl, sym, ap, ap₂, ◌∙◌}
 use mathlib.Core.Logic.{◌⊎◌, inl, inr}
 use mathlib.Core.Bool.{Bool, true, false, cond, ◌&&◌}
 use mathlib.Core.List.{List}
-use Prim.Native.Nat.{ℕ, suc, ◌+◌, ◌-◌, ◌*◌, ◌/◌, ◌%◌, ◌^◌, ◌≤◌, ◌<◌}
+use Prim.Native.Nat.{ℕ, ◌+◌, ◌-◌, ◌*◌, ◌/◌, ◌%◌, ◌^◌, ◌≤◌, ◌<◌}
 use native.Mathlib.Omega.{arith}
-use native.Mathlib.Decide.{ℕ_discrete, dec_lt}
+use native.Mathlib.Decide.{dec_lt}
 use native.Mathlib.Nat.{lt_of_le_of_lt}
 use borrow.Author.Tests.{leb-true}
 use lib.Bits.{bit_and, bit_xor, xor_lt, and_le_l}
-use lib.Dec.{leb, ltb, eqb}
+use lib.Dec.{leb, ltb}
 use lib.ListN.{length, get_or, set}
 use lib.Seq.{set-get_or}
 use Rattle.model.specs.Words.{bit, digit, within}
@@ -26,17 +26,17 @@ use Rattle.model.proofs.Decisions.{split, both_true}
 use Rattle.raster.specs.Operations.{bit_field}
 use Rattle.raster.specs.Place.{Drawable}
 use Rattle.raster.specs.Pixels.{blending}
-use Rattle.raster.proofs.BitLaws.{bit_zero, bit_mod, bit_and_lem, bit_xor_lem, mux_bit, differs, field_bit, num_self}
+use Rattle.raster.proofs.BitLaws.{bit_zero, bit_mod, differs, field_bit, num_self}
 use Rattle.raster.proofs.BlendLaws.{change_at, place_in}
 use Rattle.raster.proofs.ChangeLaws.{replaced}
 use Rattle.raster.proofs.PlaceLaws.{xor_one, pixel_place, place_lies}
 use Rattle.raster.proofs.Table.{tabulate, each}
-use Rattle.strips.specs.Strips.{mixed, mixed_bit, pen_bit, InkOf, Put, RotatedLeft}
+use Rattle.strips.specs.Strips.{mixed, mixed_bit, pen_bit, InkOf, Put, Muxed}
 use Rattle.strips.specs.declared.inks.Ink.{Ink}
-use Rattle.strips.proofs.BitParts.{bit_low, bit_high, fourfold}
+use Rattle.strips.proofs.BitParts.{bit_low, bit_high, byte_bit, fourfold, either}
 use Rattle.strips.proofs.EdgeLaws.{mixed_bit_lem}
 use Rattle.strips.proofs.FieldBits.{Bytes}
-use Rattle.strips.proofs.PatternLaws.{depth_elim}
+use Rattle.strips.proofs.PatternLaws.{depth_8, depth_elim}
 use Rattle.stamps.specs.Stamps.{of_pixel, word_bit, CoverOf, Covered, kept_at, flipped_at, Pressed, StampsOf, stamp_byte, stamped}
 
 -- ## Eight bytes at once
@@ -50,6 +50,26 @@ cover_bits b cover n e h = record {
       (each n (λ q. tabulate 8 (λ j. bit cover (8 * (q * b % 8) + j))) (λ q. tabulate 8 (of_pixel b (q * b))) e q (h q l)) j k;
 }
 
+-- at each depth
+pub cover_1 : CoverOf 1 0x0102040810204080
+unfolding bit
+cover_1 = cover_bits 1 _ 16 refl (λ q l. omega arith)
+
+pub cover_2 : CoverOf 2 0x0003000C003000C0
+unfolding bit
+cover_2 = cover_bits 2 _ 8 refl (λ q l. omega arith)
+
+pub cover_4 : CoverOf 4 0x0000000F000000F0
+unfolding bit
+cover_4 = cover_bits 4 _ 4 refl (λ q l. omega arith)
+
+-- .. that is none of the others
+pub cover_else : {b : ℕ} → Depth b → (b ≡ 1 → ⊥) → (b ≡ 2 → ⊥) → (b ≡ 4 → ⊥) → CoverOf b 0xFF
+unfolding bit
+cover_else d m n o = rw (depth_8 d m n o) (cover_bits 8 _ 2 refl (λ q l. omega arith))
+
+pub ruleset covers = (cover_1, cover_2, cover_4, cover_else)
+
 -- a byte eight times
 eightfold : (b i : ℕ) → b < 256 → i < 64 → bit (b * 0x0101010101010101) i ≡ bit b (i % 8)
 eightfold b i h l =
@@ -60,13 +80,10 @@ eightfold b i h l =
     go (yes k) = let z : i % 16 ≡ i % 8 = omega arith in bit_low 8 b b h (i % 16) k ∙ ap (bit b) z
     go (no k) = let z : i % 16 - 8 ≡ i % 8 = omega arith in bit_high 8 b b h (i % 16) (omega arith) ∙ ap (bit b) z
 
-pub covered_is : (cover rest byte : ℕ) → byte < 256 → Covered cover rest byte (bit_xor rest (bit_and (bit_xor rest (byte * 0x0101010101010101)) cover))
-covered_is cover rest byte h = record {
+pub covered_is : (cover rest byte r : ℕ) → byte < 256 → Muxed cover rest (byte * 0x0101010101010101) r → Covered cover rest byte r
+covered_is cover rest byte r h e = record {
   bits = λ i l.
-      bit_xor_lem i rest (bit_and (bit_xor rest (byte * 0x0101010101010101)) cover)
-      ∙ ap (differs (bit rest i)) (bit_and_lem i (bit_xor rest (byte * 0x0101010101010101)) cover
-      ∙ ap (λ (z : Bool). z && bit cover i) (bit_xor_lem i rest (byte * 0x0101010101010101)))
-      ∙ mux_bit (bit cover i) (bit rest i) (bit (byte * 0x0101010101010101) i)
+      e i ∙ sym (either (bit cover i) (byte * 0x0101010101010101) rest i)
       ∙ ap (λ (z : Bool). cond (bit cover i) z (bit rest i)) (eightfold byte i h l);
 }
 
@@ -79,9 +96,6 @@ kept_bit false = refl
 all_ones : (i : ℕ) → i < 64 → bit 0xFFFFFFFFFFFFFFFF i ≡ true
 unfolding bit
 all_ones i h = each 64 (bit 0xFFFFFFFFFFFFFFFF) (λ i. true) refl i h
-
-byte_bit : (x k j : ℕ) → j < 8 → bit (x / 2 ^ (8 * k) % 2 ^ 8) j ≡ bit x (8 * k + j)
-byte_bit x k j h = bit_mod 8 (x / 2 ^ (8 * k)) j h ∙ bit_shr x (8 * k) j
 
 -- byte k of eight that are kept, and of eight that are flipped, under a cover
 made : (ink : Ink) (cover half k : ℕ) (x y : ℕ) {keep flip : ℕ} → k < 8 → Covered cover 0xFFFFFFFFFFFFFFFF keep x → Covered cover 0 flip y
@@ -295,20 +309,3 @@ module _ (u : Surface) (pen : Pen) (s buffer : List ℕ) (x y : ℕ) (d : Drawab
   -- its byte lies in the buffer
   pub stamp_in : (r o : ℕ) → r ≡ row → o ≡ before → stamp_byte r o < length buffer
   stamp_in r o p q = rw (p, q) (place_in u buffer x y d (pixel_place u x y) (place_lies u x y d.fits.depth))
-
--- ## A pattern one bit further
-
-pub turned_is : (p : ℕ) → p < 65536 → RotatedLeft p 1 (p % 32768 * 2 + p / 32768)
-unfolding bit
-turned_is p h k = go (ℕ_discrete (k % 16) 15)
-  where
-    go : Dec (k % 16 ≡ 15) → bit (p % 32768 * 2 + p / 32768) (15 - k % 16) ≡ bit p (15 - (k + 1) % 16)
-    go (yes e) =
-        let a : (p % 32768 * 2 + p / 32768) % 2 ≡ p / 2 ^ 15 % 2 = omega arith in
-        let b : (k + 1) % 16 ≡ 0 = omega arith in
-        rw (e, b) (ap (λ (z : ℕ). eqb z 1) a ∙ bit_shr p 15 0)
-    go (no n) =
-        let a : (p % 32768 * 2 + p / 32768) / 2 ≡ p % 2 ^ 15 = omega arith in
-        let b : 15 - k % 16 ≡ suc (14 - k % 16) = omega arith in
-        let c : 15 - (k + 1) % 16 ≡ 14 - k % 16 = omega arith in
-        rw (b, c) (ap (λ (z : ℕ). bit z (14 - k % 16)) a ∙ bit_mod 15 p (14 - k % 16) (omega arith))

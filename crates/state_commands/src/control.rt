@@ -1,10 +1,11 @@
 // Where a list goes on, stops or faults: the record that NOP, LINK, CALL, RETURN, the end word and a fault
 // leave.
 ghost use Rattle.std.specs.Prelude.{◌≡◌, ◌≤◌, ◌<◌};
+ghost use Rattle.model.specs.Numbers.{fault_number};
 ghost use Rattle.model.specs.Record.{with_pointer, with_returns, ended, faulted};
 ghost use Rattle.model.specs.Effects.{kept_one, latest, without_latest};
 
-use model::{Pane, STATUS_ENDED, STATUS_FAULTED};
+use model::{Fault, Pane, STATUS_ENDED, STATUS_FAULTED};
 
 // NOP: the pointer goes on.
 pub fn nop(p: Pane, next: u32) -> Pane
@@ -65,11 +66,11 @@ pub fn ended(p: Pane) -> Pane
 }
 
 // A fault: its number is set with the status, and nothing else changes.
-pub fn faulted(p: Pane, fault: u8) -> Pane
-    ensures { result ≡ faulted p fault }
+pub fn faulted(p: Pane, fault: Fault) -> Pane
+    ensures { result ≡ faulted p (fault_number fault) }
 {
     let mut q = p;
     q.progress.status = STATUS_FAULTED;
-    q.progress.fault = fault;
+    q.progress.fault = u8::from(fault);
     q
 }

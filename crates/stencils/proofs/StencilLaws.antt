@@ -1,4 +1,5 @@
 -- Four words at a time: covers, bytes as a number, words mixed, and the stretch of a row that they make.
+use Rattle.std.specs.Int.{w64, from_le_bytes}
 use mathlib.Core.Path.{◌≡◌, refl, sym, ap, ap₂, ◌∙◌}
 use mathlib.Core.Logic.{◌⊎◌, inl, inr}
 use mathlib.Core.Bool.{Bool, true, false, cond, ◌&&◌}
@@ -7,7 +8,7 @@ use Prim.Native.Nat.{ℕ, zero, suc, ◌+◌, ◌-◌, ◌*◌, ◌/◌, ◌%◌
 use native.Mathlib.Omega.{arith}
 use native.Mathlib.Decide.{dec_lt}
 use native.Mathlib.Nat.{add_comm}
-use lib.Bits.{bit_and, bit_xor}
+use lib.Bits.{bit_xor}
 use lib.ListN.{get_or}
 use Rattle.model.specs.Words.{bit, bit_at}
 use Rattle.model.proofs.BitLaws.{bit_shr}
@@ -15,12 +16,12 @@ use Rattle.model.proofs.Decisions.{cond_true, cond_false}
 use Rattle.raster.proofs.BitLaws.{bit_zero, bit_mod, bit_xor_lem, differs}
 use Rattle.raster.proofs.Table.{each}
 use Rattle.strips.specs.Stretches.{across, In, Out, Stretched}
-use Rattle.strips.specs.Strips.{mixed, mixed_bit, Put, RotatedLeft, FirstOver, LastOver}
+use Rattle.strips.specs.Strips.{mixed, mixed_bit, Put, Muxed, RotatedLeft, FirstOver, LastOver}
 use Rattle.strips.specs.Strokes.{pattern_on}
 use Rattle.strips.specs.declared.inks.Ink.{Ink}
 use Rattle.strips.proofs.FieldBits.{Bytes}
-use Rattle.strips.proofs.BitParts.{bit_low, bit_high, bit_beyond}
-use Rattle.strips.proofs.EdgeLaws.{kept_bit, over_bit}
+use Rattle.strips.proofs.BitParts.{bit_low, bit_high, bit_beyond, byte_bit, either}
+use Rattle.strips.proofs.EdgeLaws.{kept_bit, mixed_bit_lem}
 use Rattle.strips.proofs.PatternLaws.{depth_elim}
 use Rattle.strips.proofs.SpreadLaws.{across_on}
 use Rattle.strips.proofs.StretchLaws.{stretched_then}
@@ -99,9 +100,6 @@ pair_fits c d h k = omega arith
 high_pair : (y : ℕ) → y < 2 ^ 32 → y * 2 ^ 32 % 2 ^ 64 ≡ 2 ^ 32 * y
 high_pair y h = omega arith
 
-both_fit : (x y : ℕ) → x < 2 ^ 32 → y < 2 ^ 32 → x + 2 ^ 32 * y < 2 ^ 64
-both_fit x y h k = omega arith
-
 pub words_sum : (x : ℕ) → x / 2 ^ 48 + x / 2 ^ 32 % 65536 * 2 ^ 16 % 2 ^ 64 + (x / 2 ^ 16 % 65536 + x % 65536 * 2 ^ 16 % 2 ^ 64) * 2 ^ 32 % 2 ^ 64
     ≡ x / 2 ^ 48 + 2 ^ 16 * (x / 2 ^ 32 % 2 ^ 16) + 2 ^ 32 * (x / 2 ^ 16 % 2 ^ 16 + 2 ^ 16 * (x % 2 ^ 16))
 words_sum x =
@@ -109,13 +107,6 @@ words_sum x =
     (two_words (x / 2 ^ 16 % 2 ^ 16) (x % 2 ^ 16) (low_word x))
     ∙ ap (λ (b : ℕ). x / 2 ^ 48 + 2 ^ 16 * (x / 2 ^ 32 % 2 ^ 16) + b)
     (high_pair _ (pair_fits (x / 2 ^ 16 % 2 ^ 16) (x % 2 ^ 16) (low_word (x / 2 ^ 16)) (low_word x)))
-
-pub words_fit : (x : ℕ) → x < 2 ^ 64
-    → x / 2 ^ 48 + x / 2 ^ 32 % 65536 * 2 ^ 16 % 2 ^ 64 + (x / 2 ^ 16 % 65536 + x % 65536 * 2 ^ 16 % 2 ^ 64) * 2 ^ 32 % 2 ^ 64 < 2 ^ 64
-words_fit x h =
-    rw (words_sum x)
-    (both_fit _ _ (pair_fits (x / 2 ^ 48) (x / 2 ^ 32 % 2 ^ 16) (top_word x h) (low_word (x / 2 ^ 32)))
-    (pair_fits (x / 2 ^ 16 % 2 ^ 16) (x % 2 ^ 16) (low_word (x / 2 ^ 16)) (low_word x)))
 
 -- from bit lo on
 pub cover_whole : (lo hi r : ℕ) → 63 < hi → ((i : ℕ) → i < 64 → bit r i ≡ bit (all / 2 ^ lo) (63 - across 0 i)) → FourCovers lo hi r
@@ -145,6 +136,8 @@ cover_part lo hi r k h e = record {
 pub cover_none : (lo hi : ℕ) → hi ≤ lo → FourCovers lo hi 0
 cover_none lo hi h = record { on = λ i l a b. absurd (omega arith); off = λ i l o. bit_zero i }
 
+pub ruleset covers = (cover_whole, cover_part, cover_none)
+
 -- ## Bytes as a number
 
 unfoldable bytes_num : List ℕ → ℕ → ℕ → ℕ
@@ -167,30 +160,44 @@ bytes_bit l b (suc n) at i h = go (bytes_bit l b n (at + 1)) (dec_lt i 8)
         bit_high 8 (get_or l at 0) (bytes_num l (at + 1) n) (b at) i (omega arith) ∙ more (i - 8) (omega arith)
         ∙ ap (λ (m : ℕ). bit (get_or l (m / 8) 0) (m % 8)) e
 
-pub eight_is : (l : List ℕ) → Bytes l → (at r : ℕ)
-    → r ≡ get_or l at 0 + get_or l (at + 1) 0 * 256 + get_or l (at + 2) 0 * 65536 + get_or l (at + 3) 0 * 16777216
-    + (get_or l (at + 4) 0 + get_or l (at + 5) 0 * 256 + get_or l (at + 6) 0 * 65536 + get_or l (at + 7) 0 * 16777216) * 4294967296
-    → (i : ℕ) → i < 64 → bit r i ≡ bit_at l (8 * at + i)
+pub eight_is : (l : List ℕ) → Bytes l → (at r : ℕ) (bytes : List ℕ) → r ≡ from_le_bytes w64 bytes
+    → ((k : ℕ) → k < 8 → get_or bytes k 0 ≡ get_or l (at + k) 0) → (i : ℕ) → i < 64 → bit r i ≡ bit_at l (8 * at + i)
 unfolding bytes_num
-eight_is l b at r e i h = ap (λ (z : ℕ). bit z i) (e ∙ whole) ∙ bytes_bit l b 8 at i h
+eight_is l b at r bytes e f i h = ap (λ (z : ℕ). bit z i) (e ∙ whole) ∙ bytes_bit l b 8 at i h
   where
+    here : at + 0 ≡ at
+    here = omega arith
+
     ahead : (k : ℕ) → at + k + 1 ≡ at + (k + 1)
     ahead k = omega arith
 
-    nested : (a b c d e f g h : ℕ) → a + b * 256 + c * 65536 + d * 16777216 + (e + f * 256 + g * 65536 + h * 16777216) * 4294967296
+    nested : (a b c d e f g h : ℕ)
+        → a + b * 256 ^ 1 + c * 256 ^ 2 + d * 256 ^ 3 + e * 256 ^ 4 + f * 256 ^ 5 + g * 256 ^ 6 + h * 256 ^ 7
         ≡ a + 2 ^ 8 * (b + 2 ^ 8 * (c + 2 ^ 8 * (d + 2 ^ 8 * (e + 2 ^ 8 * (f + 2 ^ 8 * (g + 2 ^ 8 * (h + 2 ^ 8 * 0)))))))
     nested a b c d e f g h = omega arith
 
-    whole : get_or l at 0 + get_or l (at + 1) 0 * 256 + get_or l (at + 2) 0 * 65536 + get_or l (at + 3) 0 * 16777216
-        + (get_or l (at + 4) 0 + get_or l (at + 5) 0 * 256 + get_or l (at + 6) 0 * 65536 + get_or l (at + 7) 0 * 16777216) * 4294967296 ≡ bytes_num l at 8
-    whole = rw (ahead 1, ahead 2, ahead 3, ahead 4, ahead 5, ahead 6)
-        (nested (get_or l at 0) (get_or l (at + 1) 0) (get_or l (at + 2) 0) (get_or l (at + 3) 0) (get_or l (at + 4) 0) (get_or l (at + 5) 0) (get_or l (at + 6) 0)
-        (get_or l (at + 7) 0))
+    whole : from_le_bytes w64 bytes ≡ bytes_num l at 8
+    whole = rw (
+      f 0 (omega arith),
+      f 1 (omega arith),
+      f 2 (omega arith),
+      f 3 (omega arith),
+      f 4 (omega arith),
+      f 5 (omega arith),
+      f 6 (omega arith),
+      f 7 (omega arith),
+      here,
+      ahead 1,
+      ahead 2,
+      ahead 3,
+      ahead 4,
+      ahead 5,
+      ahead 6,
+    )
+        (nested (get_or l at 0) (get_or l (at + 1) 0) (get_or l (at + 2) 0) (get_or l (at + 3) 0) (get_or l (at + 4) 0) (get_or l (at + 5) 0)
+        (get_or l (at + 6) 0) (get_or l (at + 7) 0))
 
 -- ## Four words mixed
-
-byte_bit : (x k j : ℕ) → j < 8 → bit (x / 2 ^ (8 * k) % 2 ^ 8) j ≡ bit x (8 * k + j)
-byte_bit x k j h = bit_mod 8 (x / 2 ^ (8 * k)) j h ∙ bit_shr x (8 * k) j
 
 -- bit i of eight bytes at byte `at`
 at_bit : (l : List ℕ) (at i : ℕ) → bit_at l (8 * at + i) ≡ bit (get_or l (at + i / 8) 0) (i % 8)
@@ -204,14 +211,10 @@ far_byte : (at n m : ℕ) → (m < 8 * at) ⊎ (8 * at + 8 * n ≤ m) → (m / 8
 far_byte at n m (inl l) = inl (omega arith)
 far_byte at n m (inr l) = inr (omega arith)
 
--- what is put, old ^ ((old ^ ((old & keep) ^ flip)) & cover)
-abbrev pub covering : ℕ → ℕ → ℕ → ℕ → ℕ
-covering old keep flip cover = bit_xor old (bit_and (bit_xor old (mixed old keep flip)) cover)
-
 -- eight bytes put at once
-pub put_mixed : (at : ℕ) (ink : WideInk) (cover x : ℕ) (old new : List ℕ) → ((i : ℕ) → i < 64 → bit x i ≡ bit_at old (8 * at + i))
-    → Put 8 at (covering x ink.keep ink.flip cover) old new → FourMixed at ink cover old new
-put_mixed at ink cover x old new e p = record {
+pub put_mixed : (at : ℕ) (ink : WideInk) (cover x y : ℕ) (old new : List ℕ) → ((i : ℕ) → i < 64 → bit x i ≡ bit_at old (8 * at + i))
+    → Muxed cover x (mixed x ink.keep ink.flip) y → Put 8 at y old new → FourMixed at ink cover old new
+put_mixed at ink cover x y old new e m p = record {
   length = p.length;
   on = λ i l c. at_i i l ∙ cond_true _ _ c ∙ ap (mixed_bit ink.keep ink.flip i) (e i l);
   off = λ i l c. at_i i l ∙ cond_false _ _ c ∙ e i l;
@@ -222,8 +225,8 @@ put_mixed at ink cover x old new e p = record {
     at_i i l =
         let z : 8 * (i / 8) + i % 8 ≡ i = omega arith in
         at_bit new at i ∙ ap (λ (b : ℕ). bit b (i % 8)) (p.inside (i / 8) (omega arith))
-        ∙ byte_bit (covering x ink.keep ink.flip cover) (i / 8) (i % 8) (omega arith)
-        ∙ ap (bit (covering x ink.keep ink.flip cover)) z ∙ over_bit x ink.keep ink.flip cover i
+        ∙ byte_bit y (i / 8) (i % 8) (omega arith) ∙ ap (bit y) z ∙ m i ∙ sym (either (bit cover i) (mixed x ink.keep ink.flip) x i)
+        ∙ ap (λ (b : Bool). cond (bit cover i) b (bit x i)) (mixed_bit_lem x ink.keep ink.flip i)
 
 -- ## Stretches of a row
 
@@ -393,14 +396,3 @@ module _ (s : Stencil) (us : Usable s) (cells o : ℕ) where
           (stretched_then (first 64 p f (whole_cover us.first (omega arith)) (omega arith))
           (second 64 q g (whole_cover us.second (omega arith)) (omega arith)) (omega (arith, us.lead)) (omega arith))
           (last r j (omega arith)) (omega (arith, us.lead)) (omega arith)
-
--- ## Inks
-
-pub wide_repeated : {ink : Ink} {r : WideInk} → WideOf ink r → Repeated r
-wide_repeated {ink} {r} w = record {
-  keep = λ i l. w.keep i l ∙ sym (again ink.keep i (w.keep (i % 16) (omega arith)));
-  flip = λ i l. w.flip i l ∙ sym (again ink.flip i (w.flip (i % 16) (omega arith)));
-}
-  where
-    again : (x i : ℕ) {v : Bool} → v ≡ bit x (i % 16 % 16) → v ≡ bit x (i % 16)
-    again x i e = let z : i % 16 % 16 ≡ i % 16 = omega arith in e ∙ ap (bit x) z

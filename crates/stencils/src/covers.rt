@@ -5,6 +5,7 @@ ghost use Rattle.strips.specs.Stretches.{across};
 ghost use Rattle.stencils.specs.Stencils.{FourCovers};
 
 // Four words whose bits stand from the left, as they stand in a buffer: the first word lowest.
+#[tactic(auto, using(crate::proofs::StencilLaws::in_words, crate::proofs::StencilLaws::words_sum))]
 fn in_words(x: u64) -> u64
     ensures { (i : ℕ) → i < 64 → bit result i ≡ bit x (63 - across 0 i) }
 {
@@ -14,26 +15,24 @@ fn in_words(x: u64) -> u64
 }
 
 // A cover of four words' bits from the left, lo to hi - 1.
+#[tactic(auto, using(crate::proofs::StencilLaws::covers))]
 pub fn cover_of(lo: usize, hi: usize) -> u64
     requires { lo < 64 }
     ensures { FourCovers lo hi result }
 {
-    let all: u64 = 0xFFFFFFFFFFFFFFFF;
+    let all = u64::MAX;
     if hi > 63 {
-        return in_words(all >> lo);
+        in_words(all >> lo)
+    } else if hi > lo {
+        in_words((all >> lo) ^ (all >> hi))
+    } else {
+        0
     }
-    if hi > lo {
-        return in_words((all >> lo) ^ (all >> hi));
-    }
-    0
 }
 
 // .. of those from bit n on, where the bits before bit `end` are drawn.
 pub fn cover_from(end: usize, n: usize) -> u64
     ensures { FourCovers 0 (end - n) result }
 {
-    if end > n {
-        return cover_of(0, end - n);
-    }
-    0
+    cover_of(0, end.saturating_sub(n))
 }

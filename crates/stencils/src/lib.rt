@@ -14,7 +14,7 @@ use crate::covers::{cover_from, cover_of};
 use crate::fours::{WideInk, mix};
 use strips::inks::Ink;
 use strips::patterns::{over_first, over_last, rotate_left};
-use strips::weaves::four;
+use strips::weaves::{four, mux};
 
 // Where cells lie in a row, and what they are drawn with: the first word of the row, the bits of cells from `lead` to
 // below `end`, from the left of that word, the pattern's index at that word's first pixel, and the inks of 1s and of
@@ -72,8 +72,8 @@ fn chosen(s: Stencil, over: u64) -> WideInk
     let fore = s.fore;
     let back = s.back;
     WideInk {
-        keep: back.keep ^ ((back.keep ^ fore.keep) & over),
-        flip: back.flip ^ ((back.flip ^ fore.flip) & over),
+        keep: mux(over, back.keep, fore.keep),
+        flip: mux(over, back.flip, fore.flip),
     }
 }
 

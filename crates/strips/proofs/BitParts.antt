@@ -10,7 +10,7 @@ use lib.Pow.{low, high}
 use Rattle.model.specs.Words.{bit}
 use Rattle.model.proofs.BitLaws.{bit_shr}
 use Rattle.raster.proofs.BitLaws.{bit_zero, bit_mod, bit_and_lem, bit_xor_lem, differs, mux_bit}
-use Rattle.strips.specs.Strips.{Fourfold, Under}
+use Rattle.strips.specs.Strips.{Fourfold, Muxed, Under}
 
 -- ## x below bit k, y from there on
 
@@ -32,6 +32,10 @@ pub bit_beyond : (k x i : ℕ) → x < 2 ^ k → k ≤ i → bit x i ≡ false
 bit_beyond k x i h l =
     let e : x ≡ x + 2 ^ k * 0 = omega arith in
     ap (λ (z : ℕ). bit z i) e ∙ bit_high k x 0 h i l ∙ bit_zero (i - k)
+
+-- byte k of a number
+pub byte_bit : (x k j : ℕ) → j < 8 → bit (x / 2 ^ (8 * k) % 2 ^ 8) j ≡ bit x (8 * k + j)
+byte_bit x k j h = bit_mod 8 (x / 2 ^ (8 * k)) j h ∙ bit_shr x (8 * k) j
 
 -- ## A word again and again
 
@@ -58,7 +62,7 @@ fourfold w h i l =
 
 -- ## x ^ ((x ^ y) & m) is y where m is 1, else x
 
-either : (m : Bool) (f b i : ℕ) → cond m (bit f i) (bit b i) ≡ bit (cond m f b) i
+pub either : (m : Bool) (f b i : ℕ) → cond m (bit f i) (bit b i) ≡ bit (cond m f b) i
 either true f b i = refl
 either false f b i = refl
 
@@ -69,9 +73,9 @@ choice_bit x y m i =
     ∙ mux_bit (bit m i) (bit x i) (bit y i) ∙ either (bit m i) y x i
 
 -- between two words, each four times
-pub under_is : (m f b x y : ℕ) → Fourfold b x → Fourfold f y → Under m f b (bit_xor x (bit_and (bit_xor x y) m))
-under_is m f b x y p q i h =
-    choice_bit x y m i ∙ sym (either (bit m i) y x i) ∙ ap₂ (cond (bit m i)) (q i h) (p i h) ∙ either (bit m i) f b (i % 16)
+pub under_is : (m f b x y r : ℕ) → Fourfold b x → Fourfold f y → Muxed m x y r → Under m f b r
+under_is m f b x y r p q e i h =
+    e i ∙ sym (either (bit m i) y x i) ∙ ap₂ (cond (bit m i)) (q i h) (p i h) ∙ either (bit m i) f b (i % 16)
 
 -- ## x | y
 

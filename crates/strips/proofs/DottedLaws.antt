@@ -111,7 +111,8 @@ module _ {pen : Pen} {pattern bits : ℕ} {s : List ℕ} (w : Woven pen pattern 
   unfolding brushed
   woven_dotted phase o m v h =
       let a : across o m ≡ 16 * ((m / 8 - o) / 2) + (8 * (1 - (m / 8 - o) % 2) + 7 - m % 8) = across_byte o m h in
-      let x : 8 * bit_xor ((m / 8 - o) % 2) 1 + 7 - m % 8 ≡ 8 * (1 - (m / 8 - o) % 2) + 7 - m % 8 = ap (λ (x : ℕ). 8 * x + 7 - m % 8) (other_half (m / 8 - o)) in
+      let x : 8 * bit_xor ((m / 8 - o) % 2) 1 + 7 - m % 8 ≡ 8 * (1 - (m / 8 - o) % 2) + 7 - m % 8
+      = ap (λ (x : ℕ). 8 * x + 7 - m % 8) (other_half (m / 8 - o)) in
       w.mixes (index_at s phase ((m / 8 - o) / 2)) ((m / 8 - o) % 2) (m % 8) (omega arith) (omega arith) (omega arith) v
       ∙ rw (
         x,

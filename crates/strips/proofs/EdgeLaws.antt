@@ -1,4 +1,5 @@
 -- Covers of a word, two bytes as a word, and a word mixed under a cover.
+use Rattle.std.specs.Int.{w16, to_le_bytes}
 use mathlib.Core.Path.{◌≡◌, refl, sym, ap, ap₂, ◌∙◌}
 use mathlib.Core.Logic.{◌⊎◌, inl, inr}
 use mathlib.Core.Bool.{Bool, true, false, cond, ◌&&◌}
@@ -40,13 +41,13 @@ lead_covers k h = record {
     past i l (inr o) = omega arith
 
 -- .. up to bit k from the left
-tail_bit : (k i : ℕ) → k < 16 → i < 16 → bit (65535 * 2 ^ (15 - k) % 4294967296 % 65536) i ≡ leb 15 (i + k)
+tail_bit : (k i : ℕ) → k < 16 → i < 16 → bit (65535 * 2 ^ (15 - k) % 65536) i ≡ leb 15 (i + k)
 unfolding bit
 tail_bit k i h l =
-    each 16 (bit (65535 * 2 ^ (15 - k) % 4294967296 % 65536)) (λ i. leb 15 (i + k))
-    (each 16 (λ k. tabulate 16 (bit (65535 * 2 ^ (15 - k) % 4294967296 % 65536))) (λ k. tabulate 16 (λ i. leb 15 (i + k))) refl k h) i l
+    each 16 (bit (65535 * 2 ^ (15 - k) % 65536)) (λ i. leb 15 (i + k))
+    (each 16 (λ k. tabulate 16 (bit (65535 * 2 ^ (15 - k) % 65536))) (λ k. tabulate 16 (λ i. leb 15 (i + k))) refl k h) i l
 
-pub tail_covers : (k : ℕ) → k < 16 → Covers 0 (k + 1) (65535 * 2 ^ (15 - k) % 4294967296 % 65536)
+pub tail_covers : (k : ℕ) → k < 16 → Covers 0 (k + 1) (65535 * 2 ^ (15 - k) % 65536)
 tail_covers k h = record {
   on = λ i l a b. tail_bit k i h l ∙ le-leb 15 (i + k) (omega arith);
   off = λ i l o. tail_bit k i h l ∙ lt-leb 15 (i + k) (past i l o);
@@ -78,7 +79,8 @@ unfolding bit_at
 kept_bit m old new e = ap (λ (v : ℕ). bit v (m % 8)) e
 
 -- a bit of a word of two bytes is one of theirs
-pub word_bit_lem : (l : List ℕ) (at i : ℕ) → get_or l at 0 < 256 → i < 16 → bit (get_or l at 0 + 256 * get_or l (at + 1) 0) i ≡ bit (get_or l (at + i / 8) 0) (i % 8)
+pub word_bit_lem : (l : List ℕ) (at i : ℕ) → get_or l at 0 < 256 → i < 16
+    → bit (get_or l at 0 + 256 * get_or l (at + 1) 0) i ≡ bit (get_or l (at + i / 8) 0) (i % 8)
 word_bit_lem l at i h k = go (dec_lt i 8)
   where
     go : Dec (i < 8) → bit (get_or l at 0 + 256 * get_or l (at + 1) 0) i ≡ bit (get_or l (at + i / 8) 0) (i % 8)
@@ -95,7 +97,8 @@ word_bit_lem l at i h k = go (dec_lt i 8)
         ∙ ap (λ (x : ℕ). bit x (i % 8)) z)
 
 -- .. in a buffer
-pub bits_word : (l : List ℕ) (at w : ℕ) → get_or l at 0 + 256 * get_or l (at + 1) 0 ≡ w → get_or l at 0 < 256 → (i : ℕ) → i < 16 → bit_at l (8 * at + i) ≡ bit w i
+pub bits_word : (l : List ℕ) (at w : ℕ) → get_or l at 0 + 256 * get_or l (at + 1) 0 ≡ w → get_or l at 0 < 256
+    → (i : ℕ) → i < 16 → bit_at l (8 * at + i) ≡ bit w i
 unfolding bit_at
 bits_word l at w e h i k =
     let q : (8 * at + i) / 8 ≡ at + i / 8 = omega arith in
@@ -117,41 +120,49 @@ over_bit old keep flip cover i =
     ∙ ap (differs (bit old i)) (mixed_bit_lem old keep flip i)))
     ∙ mux_bit (bit cover i) (bit old i) (mixed_bit keep flip i (bit old i))
 
--- the word at byte `at` written anew
-pub word_edged : (at : ℕ) (ink : Ink) (cover : ℕ) (s : List ℕ) (old new : ℕ) → at + 2 ≤ length s → get_or s at 0 < 256
-    → get_or s at 0 + 256 * get_or s (at + 1) 0 ≡ old → bit_xor old (bit_and (bit_xor old (mixed old ink.keep ink.flip)) cover) ≡ new
-    → Edged at ink cover s (set (set s at (new % 256)) (at + 1) (new / 256))
-word_edged at ink cover s old new h b e n = record {
-  length = length-set (set s at (new % 256)) (at + 1) (new / 256) ∙ length-set s at (new % 256);
-  inside = λ i l.
-      bits_word (set (set s at (new % 256)) (at + 1) (new / 256)) at new (rw (low, high) whole) (rw low small) i l
-      ∙ ap (λ (x : ℕ). bit x i) (sym n) ∙ over_bit old ink.keep ink.flip cover i
-      ∙ ap (λ (x : Bool). cond (bit cover i) (mixed_bit ink.keep ink.flip i x) x) (sym (bits_word s at old e b i l));
-  outside = λ m o. kept_bit m s _
-      (get_or-set_other (set s at (new % 256)) (at + 1) (m / 8) (new / 256) 0 (second m o) ∙ get_or-set_other s at (m / 8) (new % 256) 0 (first m o));
-}
-  where
-    low : get_or (set (set s at (new % 256)) (at + 1) (new / 256)) at 0 ≡ new % 256
-    low = get_or-set_other (set s at (new % 256)) (at + 1) at (new / 256) 0 (λ e. omega arith) ∙ get_or-set_same s at (new % 256) 0 (omega arith)
-
-    high : get_or (set (set s at (new % 256)) (at + 1) (new / 256)) (at + 1) 0 ≡ new / 256
-    high = get_or-set_same (set s at (new % 256)) (at + 1) (new / 256) 0 (rw (length-set s at (new % 256)) (omega arith))
-
-    whole : new % 256 + 256 * (new / 256) ≡ new
-    whole = omega arith
-
-    small : new % 256 < 256
-    small = omega arith
-
-    first : (m : ℕ) → (m < 8 * at) ⊎ (8 * at + 16 ≤ m) → m / 8 ≡ at → ⊥
-    first m (inl o) z = omega arith
-    first m (inr o) z = omega arith
-
-    second : (m : ℕ) → (m < 8 * at) ⊎ (8 * at + 16 ≤ m) → m / 8 ≡ at + 1 → ⊥
-    second m (inl o) z = omega arith
-    second m (inr o) z = omega arith
-
 -- the word written is one of 16 bits
-pub over_lt : (old keep flip cover : ℕ) → old < 2 ^ 16 → cover < 2 ^ 16 → bit_xor old (bit_and (bit_xor old (mixed old keep flip)) cover) < 2 ^ 16
+over_lt : (old keep flip cover : ℕ) → old < 2 ^ 16 → cover < 2 ^ 16 → bit_xor old (bit_and (bit_xor old (mixed old keep flip)) cover) < 2 ^ 16
 over_lt old keep flip cover h k =
     xor_lt 16 old (bit_and (bit_xor old (mixed old keep flip)) cover) h (lt_of_le_of_lt (and_le_r (bit_xor old (mixed old keep flip)) cover) k)
+
+-- the word at byte `at` written anew
+module _ (at : ℕ) (ink : Ink) (cover : ℕ) (s : List ℕ) (old : ℕ) where
+  over : ℕ
+  over = bit_xor old (bit_and (bit_xor old (mixed old ink.keep ink.flip)) cover)
+
+  written : ℕ → ℕ → List ℕ
+  written low high = set (set s at low) (at + 1) high
+
+  edged : (low high : ℕ) → at + 2 ≤ length s → get_or s at 0 < 256 → get_or s at 0 + 256 * get_or s (at + 1) 0 ≡ old → low < 256
+      → low + 256 * high ≡ over → Edged at ink cover s (written low high)
+  unfolding over written
+  edged low high h b e small whole = record {
+    length = length-set (set s at low) (at + 1) high ∙ length-set s at low;
+    inside = λ i l.
+        bits_word (written low high) at over (rw (first, second) whole) (rw first small) i l ∙ over_bit old ink.keep ink.flip cover i
+        ∙ ap (λ (x : Bool). cond (bit cover i) (mixed_bit ink.keep ink.flip i x) x) (sym (bits_word s at old e b i l));
+    outside = λ m o. kept_bit m s _
+        (get_or-set_other (set s at low) (at + 1) (m / 8) high 0 (beyond m o) ∙ get_or-set_other s at (m / 8) low 0 (before m o));
+  }
+    where
+      first : get_or (set (set s at low) (at + 1) high) at 0 ≡ low
+      first = get_or-set_other (set s at low) (at + 1) at high 0 (λ e. omega arith) ∙ get_or-set_same s at low 0 (omega arith)
+
+      second : get_or (set (set s at low) (at + 1) high) (at + 1) 0 ≡ high
+      second = get_or-set_same (set s at low) (at + 1) high 0 (rw (length-set s at low) (omega arith))
+
+      before : (m : ℕ) → (m < 8 * at) ⊎ (8 * at + 16 ≤ m) → m / 8 ≡ at → ⊥
+      before m (inl o) z = omega arith
+      before m (inr o) z = omega arith
+
+      beyond : (m : ℕ) → (m < 8 * at) ⊎ (8 * at + 16 ≤ m) → m / 8 ≡ at + 1 → ⊥
+      beyond m (inl o) z = omega arith
+      beyond m (inr o) z = omega arith
+
+  pub word_edged : {bytes : List ℕ} → at + 2 ≤ length s → get_or s at 0 < 256 → get_or s at 0 + 256 * get_or s (at + 1) 0 ≡ old
+      → old < 2 ^ 16 → cover < 2 ^ 16 → bytes ≡ to_le_bytes w16 (bit_xor old (bit_and (bit_xor old (mixed old ink.keep ink.flip)) cover))
+      → Edged at ink cover s (set (set s at (get_or bytes 0 0)) (at + 1) (get_or bytes 1 0))
+  unfolding over written
+  word_edged h b e k l w =
+      let m : over < 2 ^ 16 = over_lt old ink.keep ink.flip cover k l in
+      rw w (edged (over % 256) (over / 256 % 256) h b e (omega arith) (omega arith))

@@ -14,7 +14,6 @@ use Rattle.raster.specs.declared.operations.Truth.{Truth}
 use Rattle.raster.proofs.BitLaws.{bit_zero, bit_xor_lem, differs, muxed_bit, field_bit}
 use Rattle.raster.proofs.ByteLaws.{chosen_bit}
 use Rattle.raster.proofs.Table.{each}
-use Rattle.strips.specs.declared.inks.Ink.{Ink}
 use Rattle.strips.specs.declared.inks.Mix.{Mix}
 use Rattle.strips.specs.Strips.{mixed_bit, MixOf, ColourInk, InkOf}
 use Rattle.strips.proofs.BitParts.{bit_low, bit_high}
@@ -90,6 +89,3 @@ back_none pen e = record { bits = λ i h d. rw (each 16 (bit 65535) (λ i. true)
     kept : (d : Bool) → differs (d && true) false ≡ d
     kept true = refl
     kept false = refl
-
-pub back_ink : (pen : Pen) {ink : Ink} → pen.transparent ≡ false → ColourInk pen pen.back ink → InkOf pen false ink
-back_ink pen e c = record { bits = λ i h d. rw e (c.bits i h d) }

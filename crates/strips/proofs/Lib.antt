@@ -3,7 +3,6 @@ pub mod FieldBits
 pub mod BitParts
 pub mod StrokeLaws
 pub mod WindowLaws
-pub mod FillLaws
 pub mod StretchLaws
 pub mod MixLaws
 pub mod InkLaws

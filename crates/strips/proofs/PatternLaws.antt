@@ -1,16 +1,19 @@
 -- The four depths; a pattern rotated, and from the other end.
-use mathlib.Core.Path.{◌≡◌, sym, ap, ap₂, ◌∙◌}
-use Prim.Native.Nat.{ℕ, suc, ◌+◌, ◌-◌, ◌*◌, ◌/◌, ◌%◌, ◌^◌, ◌≤◌, ◌<◌}
+use Rattle.std.specs.Int.{w16, rotate_left, reverse_bits, reverse_bits_onto}
+use mathlib.Core.Path.{◌≡◌, refl, sym, ap, ap₂, ◌∙◌}
+use Prim.Native.Nat.{ℕ, zero, suc, ◌+◌, ◌-◌, ◌*◌, ◌/◌, ◌%◌, ◌^◌, ◌≤◌, ◌<◌}
 use native.Mathlib.Omega.{arith}
 use native.Mathlib.Decide.{ℕ_discrete, dec_lt}
-use native.Mathlib.Numerals.{add-one}
-use Rattle.model.specs.Words.{bit, num, digit}
-use Rattle.model.proofs.BitLaws.{bit_num, num_cong, bit_shr}
+use lib.Dec.{eqb}
+use Rattle.model.specs.Words.{bit}
+use Rattle.model.proofs.BitLaws.{bit_shr}
 use Rattle.model.specs.Bitmaps.{Depth}
 use Rattle.model.proofs.PlaceLaws.{depth_bounds}
-use lib.Pow.{pow_mono}
-use Rattle.raster.proofs.BitLaws.{num_lt, bit_mod}
+use mathlib.Core.Bool.{Bool, true, false, ◌||◌}
+use native.Mathlib.Nat.{mul-mod_left}
+use Rattle.raster.proofs.BitLaws.{bit_mod, bit_shl, bit_zero, bit_or_lem}
 use Rattle.strips.specs.Strips.{RotatedLeft, Reversed}
+use Rattle.strips.proofs.BitParts.{bit_beyond}
 
 -- ## The four depths
 
@@ -32,13 +35,6 @@ factor b e h l p q r = go (dec_lt b 1) (dec_lt b 4) (dec_lt b 5) (dec_lt b 6) (d
 pub depth_8 : {b : ℕ} → Depth b → (b ≡ 1 → ⊥) → (b ≡ 2 → ⊥) → (b ≡ 4 → ⊥) → b ≡ 8
 depth_8 {b} d p q r = factor b d.e d.fills (depth_bounds d).1 p q r
 
-pub depth_2 : {b : ℕ} → Depth b → (b ≡ 1 → ⊥) → (b ≡ 8 → ⊥) → (b ≡ 4 → ⊥) → b ≡ 2
-depth_2 {b} d p q r = go (ℕ_discrete b 2)
-  where
-    go : Dec (b ≡ 2) → b ≡ 2
-    go (yes e) = e
-    go (no n) = absurd (q (depth_8 d p n r))
-
 -- what holds at 1, 2, 4 and 8 holds at every depth
 pub depth_elim : (P : ℕ → Type 0) → P 1 → P 2 → P 4 → P 8 → {b : ℕ} → Depth b → P b
 depth_elim P p1 p2 p4 p8 {b} d = go (ℕ_discrete b 1) (ℕ_discrete b 2) (ℕ_discrete b 4)
@@ -49,45 +45,73 @@ depth_elim P p1 p2 p4 p8 {b} d = go (ℕ_discrete b 1) (ℕ_discrete b 2) (ℕ_d
     go (no a) (no c) (yes e) = rw e p4
     go (no a) (no c) (no f) = rw (depth_8 d a c f) p8
 
+-- a word's pixels fill it
+pub pixels_fill : {b : ℕ} → Depth b → 16 / b * b ≡ 16
+pixels_fill d = depth_elim (λ b. 16 / b * b ≡ 16) refl refl refl refl d
+
 -- ## A pattern rotated
 
-double_bit : (p k : ℕ) → p < 65536 → k < 32 → bit (p * 65537) k ≡ bit p (k % 16)
-double_bit p k h l = go (dec_lt k 16)
-  where
-    low : p * 65537 % 65536 ≡ p
-    low = omega arith
+-- bits shifted up
+raised : (p s j : ℕ) → s ≤ j → bit (p * 2 ^ s) j ≡ bit p (j - s)
+raised p s j h = let e : j ≡ s + (j - s) = omega arith in ap (bit (p * 2 ^ s)) e ∙ bit_shl p s (j - s)
 
-    high : p * 65537 / 65536 ≡ p
-    high = omega arith
+none_below : (p s j : ℕ) → j < s → bit (p * 2 ^ s) j ≡ false
+none_below p s j h = sym (bit_mod s (p * 2 ^ s) j h) ∙ ap (λ (z : ℕ). bit z j) (mul-mod_left p (2 ^ s)) ∙ bit_zero j
 
-    go : Dec (k < 16) → bit (p * 65537) k ≡ bit p (k % 16)
-    go (yes m) = let e : k % 16 ≡ k = omega arith in sym (bit_mod 16 (p * 65537) k m) ∙ rw (low, e)
-    go (no m) =
-        let e : k ≡ 16 + (k - 16) = omega arith in
-        let f : k % 16 ≡ k - 16 = omega arith in
-        ap (bit (p * 65537)) e ∙ sym (bit_shr (p * 65537) 16 (k - 16)) ∙ rw (high, f)
+either : (x : Bool) → (x || false) ≡ x
+either true = refl
+either false = refl
 
-pub rotated_is : (p s : ℕ) → p < 65536 → s < 16 → RotatedLeft p s (p * 65537 / 2 ^ (16 - s) % 65536)
+pub rotated_is : (p s : ℕ) → p < 65536 → s < 16 → RotatedLeft p s (rotate_left w16 p s)
 rotated_is p s h l k =
-    let e : (16 - s + (15 - k % 16)) % 16 ≡ 15 - (k + s) % 16 = omega arith in
-    bit_mod 16 (p * 65537 / 2 ^ (16 - s)) (15 - k % 16) (omega arith) ∙ bit_shr (p * 65537) (16 - s) (15 - k % 16)
-    ∙ double_bit p (16 - s + (15 - k % 16)) h (omega arith) ∙ ap (bit p) e
+    let m : s % 16 ≡ s = omega arith in
+    let n : 15 - k % 16 < 16 = omega arith in
+    rw m (bit_or_lem (15 - k % 16) (p * 2 ^ s % 2 ^ 16) (p / 2 ^ ((16 - s) % 16))
+    ∙ ap₂ (λ (x y : Bool). x || y) (bit_mod 16 (p * 2 ^ s) (15 - k % 16) n) (bit_shr p ((16 - s) % 16) (15 - k % 16))
+    ∙ go (15 - k % 16) refl (dec_lt (15 - k % 16) s) (ℕ_discrete s 0))
+  where
+    go : (j : ℕ) → j ≡ 15 - k % 16 → Dec (j < s) → Dec (s ≡ 0) → (bit (p * 2 ^ s) j || bit p ((16 - s) % 16 + j)) ≡ bit p (15 - (k + s) % 16)
+    go j e (yes a) d =
+        let z : (16 - s) % 16 + j ≡ 15 - (k + s) % 16 = omega arith in
+        ap₂ (λ (x y : Bool). x || y) (none_below p s j a) (ap (bit p) z)
+    go j e (no a) (yes d) =
+        let y : j - s ≡ 15 - (k + s) % 16 = omega arith in
+        let z : (16 - s) % 16 + j ≡ 15 - (k + s) % 16 = omega arith in
+        ap₂ (λ (x y : Bool). x || y) (raised p s j (omega arith) ∙ ap (bit p) y) (ap (bit p) z) ∙ same (bit p (15 - (k + s) % 16))
+      where
+        same : (x : Bool) → (x || x) ≡ x
+        same true = refl
+        same false = refl
+    go j e (no a) (no d) =
+        let y : j - s ≡ 15 - (k + s) % 16 = omega arith in
+        ap₂ (λ (x y : Bool). x || y) (raised p s j (omega arith) ∙ ap (bit p) y) (bit_beyond 16 p ((16 - s) % 16 + j) h (omega arith))
+        ∙ either (bit p (15 - (k + s) % 16))
 
 -- ## A pattern from the other end
 
-pub reversed_next : (x k r : ℕ) → r ≡ num k (λ j. bit x (k - 1 - j)) → r * 2 + digit (bit x k) ≡ num (k + 1) (λ j. bit x (k + 1 - 1 - j))
-unfolding num
-reversed_next x k r e =
-    let n : k + 1 ≡ suc k = add-one k in
-    rw n (ap₂ (λ (p q : ℕ). p * 2 + q)
-    (e ∙ num_cong k _ _ (λ j l. let z : k - 1 - j ≡ suc k - 1 - suc j = omega arith in ap (bit x) z))
-    (let z : k ≡ suc k - 1 - 0 = omega arith in ap (λ (i : ℕ). digit (bit x i)) z))
+-- what stood there already is shifted up
+onto_high : (k n a j : ℕ) → bit (reverse_bits_onto k n a) (k + j) ≡ bit a j
+unfolding reverse_bits_onto bit
+onto_high zero n a j = let e : 0 + j ≡ j = omega arith in ap (bit a) e
+onto_high (suc k) n a j =
+    let e : suc k + j ≡ k + suc j = omega arith in
+    let h : (a * 2 + n % 2) / 2 ≡ a = omega arith in
+    ap (bit (reverse_bits_onto k (n / 2) (a * 2 + n % 2))) e ∙ onto_high k (n / 2) (a * 2 + n % 2) (suc j) ∙ ap (λ (z : ℕ). bit z j) h
 
--- before the last step a further bit fits
-pub reversed_lt : (x k r : ℕ) → k < 16 → r ≡ num k (λ j. bit x (k - 1 - j)) → r < 32768
-reversed_lt x k r h e =
-    let p : 2 ^ k ≤ 2 ^ 15 = pow_mono (let q : k ≤ 15 = omega arith in q) in
-    omega (arith, e, num_lt k (λ j. bit x (k - 1 - j)), p)
+onto_low : (k n a j : ℕ) → j < k → bit (reverse_bits_onto k n a) j ≡ bit n (k - 1 - j)
+unfolding reverse_bits_onto bit
+onto_low zero n a j h = absurd (omega arith)
+onto_low (suc k) n a j h = go (onto_low k (n / 2) (a * 2 + n % 2) j) (dec_lt j k)
+  where
+    go : (j < k → bit (reverse_bits_onto k (n / 2) (a * 2 + n % 2)) j ≡ bit (n / 2) (k - 1 - j)) → Dec (j < k)
+        → bit (reverse_bits_onto k (n / 2) (a * 2 + n % 2)) j ≡ bit n (suc k - 1 - j)
+    go rest (yes l) = let e : suc (k - 1 - j) ≡ suc k - 1 - j = omega arith in rest l ∙ ap (bit n) e
+    go rest (no l) =
+        let e : j ≡ k + 0 = omega arith in
+        let f : 0 ≡ suc k - 1 - j = omega arith in
+        let g : (a * 2 + n % 2) % 2 ≡ n % 2 = omega arith in
+        ap (bit (reverse_bits_onto k (n / 2) (a * 2 + n % 2))) e ∙ onto_high k (n / 2) (a * 2 + n % 2) 0
+        ∙ ap (λ (z : ℕ). eqb z 1) g ∙ ap (bit n) f
 
-pub reversed_is : (x r : ℕ) → r ≡ num 16 (λ j. bit x (16 - 1 - j)) → Reversed x r
-reversed_is x r e j h = ap (λ (z : ℕ). bit z j) e ∙ bit_num 16 (λ j. bit x (16 - 1 - j)) j h
+pub reversed_is : (x : ℕ) → Reversed x (reverse_bits w16 x)
+reversed_is x j h = onto_low 16 x 0 j h

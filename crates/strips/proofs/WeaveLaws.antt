@@ -1,11 +1,12 @@
 -- The strips of a pattern woven from two inks.
+use Rattle.std.specs.Int.{w64, to_le_bytes}
 use mathlib.Core.Path.{◌≡◌, refl, sym, ap, ap₂, ◌∙◌}
 use mathlib.Core.Logic.{◌⊎◌, inl, inr}
 use mathlib.Core.Bool.{Bool, true, false, cond, ◌&&◌}
 use mathlib.Core.List.{List}
 use Prim.Native.Nat.{ℕ, ◌+◌, ◌-◌, ◌*◌, ◌/◌, ◌%◌, ◌^◌, ◌≤◌, ◌<◌}
 use native.Mathlib.Omega.{arith}
-use native.Mathlib.Nat.{zero-add, add_comm}
+use native.Mathlib.Nat.{zero-add, add_comm, div-one}
 use native.Mathlib.Decide.{ℕ_discrete, dec_lt}
 use lib.Bits.{bit_xor}
 use lib.ListN.{length, get_or, set, length-set}
@@ -15,39 +16,18 @@ use Rattle.model.specs.declared.Pen.{Pen}
 use Rattle.model.proofs.BitLaws.{bit_num, num_cong, bit_shr}
 use Rattle.raster.proofs.BitLaws.{bit_zero, num_bit, differs}
 use Rattle.raster.proofs.PlaceLaws.{xor_one}
+use Rattle.raster.proofs.Table.{each}
 use Rattle.strips.specs.declared.inks.Ink.{Ink}
 use Rattle.strips.specs.Stretches.{across}
 use Rattle.strips.specs.Strips.{mixed_bit, pen_bit, InkOf, column_of, keep_at, flip_at, Under, Put, woven_byte, StripOf, Wove}
 use Rattle.strips.specs.Strips.{RotatedLeft, FirstOver, LastOver, Woven}
 
--- ## Bytes put one by one
+-- ## Bytes put
 
-pub put_none : (at x : ℕ) (s : List ℕ) → Put 0 at x s s
-put_none at x s = record { length = refl; inside = λ k h. absurd (omega arith); outside = λ i h. refl }
-
-pub put_next : (n at x : ℕ) (old s : List ℕ) → Put n at x old s → at + n < length s → Put (n + 1) at x old (set s (at + n) (x / 2 ^ (8 * n) % 2 ^ 8))
-put_next n at x old s p h =
-    record {
-      length = length-set s (at + n) byte ∙ p.length;
-      inside = λ k l. go k l (ℕ_discrete k n);
-      outside = λ i o. get_or-set_other s (at + n) i byte 0 (λ e. apart i o e) ∙ p.outside i (less i o);
-    }
-  where
-    byte : ℕ
-    byte = x / 2 ^ (8 * n) % 2 ^ 8
-
-    apart : (i : ℕ) → (i < at) ⊎ (at + (n + 1) ≤ i) → i ≡ at + n → ⊥
-    apart i (inl l) e = omega arith
-    apart i (inr l) e = omega arith
-
-    less : (i : ℕ) → (i < at) ⊎ (at + (n + 1) ≤ i) → (i < at) ⊎ (at + n ≤ i)
-    less i (inl l) = inl l
-    less i (inr l) = inr (omega arith)
-
-    go : (k : ℕ) → k < n + 1 → Dec (k ≡ n) → get_or (set s (at + n) (x / 2 ^ (8 * n) % 2 ^ 8)) (at + k) 0 ≡ x / 2 ^ (8 * k) % 2 ^ 8
-    go k l (yes e) = rw e (get_or-set_same s (at + n) (x / 2 ^ (8 * n) % 2 ^ 8) 0 h)
-    go k l (no d) =
-        get_or-set_other s (at + n) (at + k) (x / 2 ^ (8 * n) % 2 ^ 8) 0 (λ e. d (omega arith)) ∙ p.inside k (omega arith)
+-- byte k of eight
+pub le_byte : (x k : ℕ) → k < 8 → get_or (to_le_bytes w64 x) k 0 ≡ x / 2 ^ (8 * k) % 2 ^ 8
+le_byte x k h =
+    each 8 (λ k. get_or (to_le_bytes w64 x) k 0) (λ k. x / 2 ^ (8 * k) % 2 ^ 8) (rw (div-one x) refl) k h
 
 -- ## A byte of a strip
 

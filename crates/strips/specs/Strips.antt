@@ -1,5 +1,6 @@
 -- Bytes mixed, (old & keep) ^ flip: by a strip of 16, by the table of a pattern's strips.
-use Rattle.std.specs.Prelude.{◌≡◌, ◌⊎◌, Bool, true, false, cond, ◌&&◌, List, ℕ, ◌+◌, ◌-◌, ◌*◌, ◌/◌, ◌%◌, ◌^◌, ◌≤◌, ◌<◌, length, get_or}
+use Rattle.std.specs.Prelude.{◌≡◌, ◌⊎◌, Bool, true, false, cond, ◌&&◌, List, ℕ, ◌+◌, ◌-◌, ◌*◌, ◌/◌, ◌%◌, ◌^◌, ◌≤◌, ◌<◌}
+use Rattle.std.specs.Prelude.{length, get_or}
 use Rattle.std.specs.Int.Bits.{bit_and, bit_xor}
 use Rattle.model.specs.Words.{bit, num}
 use Rattle.model.specs.Operations.{new_bit}
@@ -99,6 +100,10 @@ pub record Woven (pen : Pen) (pattern bits : ℕ) (s : List ℕ) : Type 0 where
 -- a word four times
 abbrev pub Fourfold : ℕ → ℕ → Type 0
 Fourfold w r = (i : ℕ) → i < 64 → bit r i ≡ bit w (i % 16)
+
+-- each bit is y's where m's is 1, else x's
+abbrev pub Muxed : ℕ → ℕ → ℕ → ℕ → Type 0
+Muxed m x y r = (i : ℕ) → bit r i ≡ bit (cond (bit m i) y x) i
 
 -- four words under a pattern over their bits: one word's bits under its 1s, another's under its 0s
 abbrev pub Under : ℕ → ℕ → ℕ → ℕ → Type 0

@@ -1,5 +1,5 @@
 // What a pen makes of a word: (old & keep) ^ flip, for the pattern's 1s and for its 0s.
-ghost use Rattle.std.specs.Prelude.{◌≡◌, true, false, ◌+◌, ◌*◌, ◌<◌};
+ghost use Rattle.std.specs.Prelude.{◌≡◌, true, false, ◌<◌};
 ghost use Rattle.raster.specs.Operations.{truth_of};
 ghost use Rattle.strips.specs.Strips.{MixOf, ColourInk, InkOf};
 
@@ -14,7 +14,7 @@ pub struct Mix {
     pub flip: u8,
 }
 
-// A word becomes (old & keep) ^ flip.
+// A word becomes (old & keep) ^ flip. No generic type with `Mix`: contracts of `spans` and `row_copies` name this one.
 #[derive(Clone, Copy)]
 pub struct Ink {
     pub keep: u16,
@@ -23,6 +23,7 @@ pub struct Ink {
 
 // What a pen makes of one half of a word, the source a colour: flip is the operation at an old bit 0, keep ^ flip
 // the one at an old bit 1.
+#[tactic(auto, using(crate::proofs::InkLaws::mix_is))]
 fn mix_of(pen: Pen, truth: Truth, colour: u16, half: usize) -> Mix
     requires { (truth ≡ truth_of pen.op) × (half < 2) }
     ensures { MixOf pen colour half result }
@@ -37,14 +38,8 @@ fn mix_of(pen: Pen, truth: Truth, colour: u16, half: usize) -> Mix
     }
 }
 
-// Two bytes as a word, the low one first.
-pub fn joined(low: u8, high: u8) -> u16
-    ensures { result ≡ low + 256 * high }
-{
-    (low as u16) + 256 * (high as u16)
-}
-
 // What a pen makes of a word, the source a colour.
+#[tactic(auto, using(crate::proofs::InkLaws::ink_joined))]
 fn ink_of(pen: Pen, truth: Truth, colour: u16) -> Ink
     requires { truth ≡ truth_of pen.op }
     ensures { ColourInk pen colour result }
@@ -52,8 +47,8 @@ fn ink_of(pen: Pen, truth: Truth, colour: u16) -> Ink
     let low = mix_of(pen, truth, colour, 0);
     let high = mix_of(pen, truth, colour, 1);
     Ink {
-        keep: joined(low.keep, high.keep),
-        flip: joined(low.flip, high.flip),
+        keep: u16::from_le_bytes([low.keep, high.keep]),
+        flip: u16::from_le_bytes([low.flip, high.flip]),
     }
 }
 
@@ -66,15 +61,17 @@ pub fn fore_of(pen: Pen, truth: Truth) -> Ink
 }
 
 // What a pen makes of a word under a pattern's 0s.
+#[tactic(auto, using(crate::proofs::InkLaws::back_none))]
 pub fn back_of(pen: Pen, truth: Truth) -> Ink
     requires { truth ≡ truth_of pen.op }
     ensures { InkOf pen false result }
 {
     if pen.transparent {
-        return Ink {
+        Ink {
             keep: 65535,
             flip: 0,
-        };
+        }
+    } else {
+        ink_of(pen, truth, pen.back)
     }
-    ink_of(pen, truth, pen.back)
 }

@@ -6,14 +6,15 @@ ghost use Rattle.strips.specs.Stretches.{Stretched};
 ghost use Rattle.strips.specs.Tables.{index_at, brushed, InkAt};
 
 use crate::fills::{cover, fill, sixteen};
-use crate::inks::{Ink, joined};
+use crate::inks::Ink;
+use crate::weaves::{BARE, PIXELS};
 
 // The byte of the table at which the strip of a row's word begins.
 fn strip_at(strips: &[u8], phase: usize, word: usize) -> usize
     requires { Table strips.now × (phase < 16) × (word < 1048576) }
     ensures { result ≡ 32 * index_at strips.now phase word }
 {
-    32 * ((phase + word * (strips[512] as usize)) % 16)
+    32 * ((phase + word * (strips[PIXELS] as usize)) % 16)
 }
 
 // What the strip at a byte of the table makes of its first word.
@@ -22,24 +23,26 @@ fn ink_at(strips: &[u8], at: usize) -> Ink
     ensures { InkAt strips.now at result }
 {
     Ink {
-        keep: joined(strips[at], strips[at + 1]),
-        flip: joined(strips[at + 16], strips[at + 17]),
+        keep: u16::from_le_bytes([strips[at], strips[at + 1]]),
+        flip: u16::from_le_bytes([strips[at + 16], strips[at + 17]]),
     }
 }
 
 // A cover of a word's bits from the left, from bit `lo` of the row on.
+#[tactic(auto, using(crate::proofs::EdgeLaws::lead_covers))]
 pub fn lead_of(lo: usize) -> u16
     ensures { Covers (lo % 16) 16 result }
 {
-    65535u16 >> (lo % 16)
+    u16::MAX >> (lo % 16)
 }
 
 // .. up to bit hi - 1 of the row.
+#[tactic(auto, using(crate::proofs::EdgeLaws::tail_covers))]
 pub fn tail_of(hi: usize) -> u16
     requires { 0 < hi }
     ensures { Covers 0 ((hi - 1) % 16 + 1) result }
 {
-    ((65535u32 << (15 - (hi - 1) % 16)) % 65536) as u16
+    u16::MAX << (15 - (hi - 1) % 16)
 }
 
 // A word drawn under a cover.
@@ -47,10 +50,11 @@ pub fn edge(buf: &mut [u8], at: usize, ink: Ink, cover: u16)
     requires { at + 2 ≤ length buf.old }
     ensures { Edged at ink cover buf.old buf.new }
 {
-    let old = joined(buf[at], buf[at + 1]);
+    let old = u16::from_le_bytes([buf[at], buf[at + 1]]);
     let new = old ^ ((old ^ ((old & ink.keep) ^ ink.flip)) & cover);
-    buf[at] = (new % 256) as u8;
-    buf[at + 1] = (new / 256) as u8;
+    let [low, high] = new.to_le_bytes();
+    buf[at] = low;
+    buf[at + 1] = high;
 }
 
 // The words from .. end - 1 of the row that begins at byte `row`.
@@ -64,14 +68,12 @@ fn words(buf: &mut [u8], strips: &[u8], phase: usize, row: usize, from: usize, e
     let flip = sixteen(strips, at + 16);
     let left = row + 2 * from;
     let right = row + 2 * end;
-    if strips[513] == 1 {
-        if from + 8 <= end {
-            let close = strip_at(strips, phase, end - 8);
-            cover(buf, left, right, flip, sixteen(strips, close + 16));
-            return;
-        }
+    if strips[BARE] == 1 && from + 8 <= end {
+        let close = strip_at(strips, phase, end - 8);
+        cover(buf, left, right, flip, sixteen(strips, close + 16));
+    } else {
+        fill(buf, left, right, sixteen(strips, at), flip);
     }
-    fill(buf, left, right, sixteen(strips, at), flip);
 }
 
 // Bits lo .. hi - 1, from the left, of the row that begins at byte `row`; the pattern has index `phase` at its first

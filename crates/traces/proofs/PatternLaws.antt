@@ -6,26 +6,17 @@ use Rattle.strips.specs.Strips.{RotatedLeft}
 use Rattle.strips.proofs.HitLaws.{digit_bit}
 use Rattle.traces.specs.Walks.{solid, pattern_digit}
 
-pub rotated_on : (pattern n p q : ℕ) → RotatedLeft pattern n p → RotatedLeft p 1 q → RotatedLeft pattern (n + 1) q
-rotated_on pattern n p q f g k = g k ∙ f (k + 1) ∙ (let e : k + 1 + n ≡ k + (n + 1) = omega arith in ap (λ (m : ℕ). bit pattern (15 - m % 16)) e)
-
 -- rotated by more than its sixteen bits
 pub rotated_whole : (pattern n p : ℕ) → RotatedLeft pattern (n % 16) p → RotatedLeft pattern n p
 rotated_whole pattern n p f k = f k ∙ (let e : (k + n % 16) % 16 ≡ (k + n) % 16 = omega arith in ap (λ (m : ℕ). bit pattern (15 - m)) e)
 
 -- its first bit as a number
-pub first_digit : (pattern n p : ℕ) → p < 65536 → RotatedLeft pattern n p → p / 32768 ≡ digit (bit pattern (15 - n % 16))
-first_digit pattern n p h f =
-    let e : p / 32768 ≡ p / 2 ^ 15 % 2 = omega arith in
-    let z : 0 + n ≡ n = omega arith in
-    e ∙ sym (digit_bit p 15) ∙ ap digit (f 0 ∙ ap (λ (m : ℕ). bit pattern (15 - m % 16)) z)
-
--- not rotated yet
-pub rotated_none : (pattern : ℕ) → RotatedLeft pattern 0 pattern
-rotated_none pattern k = let e : k ≡ k + 0 = omega arith in ap (λ (m : ℕ). bit pattern (15 - m % 16)) e
+pub first_digit : (p : ℕ) → p < 65536 → p / 32768 ≡ pattern_digit p 0
+first_digit p h = let e : p / 32768 ≡ p / 2 ^ 15 % 2 = omega arith in e ∙ sym (digit_bit p 15)
 
 -- its bits from one on are those of the pattern that it is rotated from
-pub digits_of : (pattern i index p : ℕ) → RotatedLeft pattern ((i + index) % 16) p → (k : ℕ) → pattern_digit p k ≡ digit (bit pattern (15 - (i + k + index) % 16))
+pub digits_of : (pattern i index p : ℕ) → RotatedLeft pattern ((i + index) % 16) p → (k : ℕ)
+    → pattern_digit p k ≡ digit (bit pattern (15 - (i + k + index) % 16))
 digits_of pattern i index p r k =
     let e : k + (i + index) ≡ i + k + index = omega arith in
     ap digit (rotated_whole pattern (i + index) p r k) ∙ ap (λ (m : ℕ). digit (bit pattern (15 - m % 16))) e

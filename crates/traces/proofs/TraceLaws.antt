@@ -1,5 +1,6 @@
 -- The visible pixels of a trace stamped one after another: what they change is what the trace's dots change.
-use Rattle.std.proofs.Common.{◌≡◌, ℕ, zero, suc, ◌+◌, ◌-◌, ◌*◌, ◌/◌, ◌%◌, ◌<◌, ◌≤◌, Bool, true, false, cond, ◌&&◌, ltb, leb, ◌⊎◌, List, length, ℤ, pos, negsuc, sym, refl, ap, ◌∙◌, inl, inr, add-one, arith, leb-true}
+use Rattle.std.proofs.Common.{◌≡◌, ℕ, zero, suc, ◌+◌, ◌-◌, ◌*◌, ◌/◌, ◌%◌, ◌<◌, ◌≤◌, Bool, true, false, cond, ◌&&◌, ltb, leb, ◌⊎◌, List, length, ℤ, pos, negsuc}
+use Rattle.std.proofs.Common.{sym, refl, ap, ◌∙◌, inl, inr, add-one, arith, leb-true}
 use native.Mathlib.Decide.{dec_lt}
 use Rattle.model.specs.Ranges.{listed}
 use Rattle.model.specs.Words.{bit, digit}

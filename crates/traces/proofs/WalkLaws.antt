@@ -1,5 +1,6 @@
 -- From one pixel of a trace to the next: where each lies, and the step between them.
-use Rattle.std.proofs.Common.{◌≡◌, ℕ, zero, suc, ◌+◌, ◌-◌, ◌*◌, ◌%◌, ◌^◌, ◌<◌, ◌≤◌, Bool, true, false, cond, ltb, ℤ, pos, ◌+ℤ◌, sym, refl, ap, ◌∙◌, ap₂, mul-le-mul_right, mul_comm, mul-le-mul_left, arith, ltb-false, ltb-true}
+use Rattle.std.proofs.Common.{◌≡◌, ℕ, zero, suc, ◌+◌, ◌-◌, ◌*◌, ◌%◌, ◌^◌, ◌<◌, ◌≤◌, Bool, true, false, cond, ltb, ℤ, pos, ◌+ℤ◌, sym, refl, ap, ◌∙◌, ap₂}
+use Rattle.std.proofs.Common.{mul-le-mul_right, mul_comm, mul-le-mul_left, arith, ltb-false, ltb-true}
 use lib.IntN.{ -ℤ-+ℤ_cancel}
 use Rattle.model.specs.Coordinates.{negative, index}
 use Rattle.model.specs.declared.Surface.{Surface}
@@ -24,11 +25,6 @@ unbiased_pos : (x k : ℕ) → unbiased x ≡ pos k → x ≡ k + 65536
 unbiased_pos x k h = split (ltb x 65536)
     (λ e. absurd (true_false (rw e at (ap negative h))))
     (λ e. let l = ltb-false x 65536 e in let f : x - 65536 ≡ k = sym (index_unbiased x) ∙ ap index h in omega arith)
-
--- a choice between two numbers is at most their sum
-either_most : (test : Bool) (a b : ℕ) {z : ℕ} → z ≡ cond test a b → z ≤ a + b
-either_most true a b e = omega arith
-either_most false a b e = omega arith
 
 -- so many pixels on or back from x, it is c
 pub record Kept (x k c : ℕ) (back : Bool) : Type 0 where
@@ -66,19 +62,17 @@ step_to : (back : Bool) (a b n : ℕ) → a < 2 ^ 64 → b < 2 ^ 64 → cond bac
 step_to false a b n h k e = omega arith
 step_to true a b n h k e = omega arith
 
+-- a coordinate that many on or back, where it is c
+moved_to : (x k c : ℕ) (back : Bool) → Kept x k c back → x < 2 ^ 64 → c ≤ 2 ^ 35 → (x + step_of back k) % 2 ^ 64 ≡ c + 65536
+moved_to x k c false w h l = omega (arith, w.sum)
+moved_to x k c true w h l = omega (arith, w.sum, w.enough refl)
+
 module _ (u : Surface) (right : (u.left + u.width) * u.bits ≤ 16 * u.words) (near : rows_end u ≤ 2 ^ 32) where
   -- they are few
   pub bits_few : (x y : ℕ) → x < u.width → y < u.height → bit_before u x y ≤ 2 ^ 35
   bits_few x y h k =
       let a : (u.left + x) * u.bits ≤ (u.left + u.width) * u.bits = mul-le-mul_right u.bits (omega arith) in
       let b : u.words * (u.top + y + 1) ≤ u.words * (u.top + u.height) = mul-le-mul_left u.words (omega arith) in
-      let c : u.words * (u.top + u.height) ≡ (u.top + u.height) * u.words = mul_comm u.words (u.top + u.height) in
-      omega arith
-
-  -- as are those of a row
-  pub row_few : (y : ℕ) → y < u.height → 16 * u.words ≤ 2 ^ 35
-  row_few y k =
-      let b : u.words * 1 ≤ u.words * (u.top + u.height) = mul-le-mul_left u.words (omega arith) in
       let c : u.words * (u.top + u.height) ≡ (u.top + u.height) * u.words = mul_comm u.words (u.top + u.height) in
       omega arith
 
@@ -93,9 +87,11 @@ module _ (u : Surface) (right : (u.left + u.width) * u.bits ≤ 16 * u.words) (n
   down : (back : Bool) (x p q : ℕ) → Beyond back p q → x < u.width → p < u.height → q < u.height
       → (bit_before u x p + step_of back (16 * u.words)) % 2 ^ 64 ≡ bit_before u x q
   down false x p q e h k l =
-      step_to false (bit_before u x p) (bit_before u x q) (16 * u.words) (omega (arith, bits_few x p h k)) (omega (arith, bits_few x q h l)) (rw e (omega arith))
+      step_to false (bit_before u x p) (bit_before u x q) (16 * u.words) (omega (arith, bits_few x p h k)) (omega (arith, bits_few x q h l))
+      (rw e (omega arith))
   down true x p q e h k l =
-      step_to true (bit_before u x p) (bit_before u x q) (16 * u.words) (omega (arith, bits_few x p h k)) (omega (arith, bits_few x q h l)) (rw e (omega arith))
+      step_to true (bit_before u x p) (bit_before u x q) (16 * u.words) (omega (arith, bits_few x p h k)) (omega (arith, bits_few x q h l))
+      (rw e (omega arith))
 
 -- pixel i's column and row as the code works them out, and the numbers on the way
 pub record SpotSized (u : Surface) (s : Trace) (i x y : ℕ) : Type 0 where
@@ -103,10 +99,10 @@ pub record SpotSized (u : Surface) (s : Trace) (i x y : ℕ) : Type 0 where
   pub row : y - 65536 ≡ row_on s i
   pub east : 65536 ≤ x
   pub south : 65536 ≤ y
-  pub top : u.top + row_on s i ≤ 2 ^ 35
-  pub rows : u.words * (u.top + row_on s i) ≤ 2 ^ 35
-  pub left : u.left + column_on s i ≤ 2 ^ 35
-  pub bits : bit_before u (column_on s i) (row_on s i) ≤ 2 ^ 35
+  pub top : u.top + (y - 65536) ≤ 2 ^ 35
+  pub rows : u.words * (u.top + (y - 65536)) ≤ 2 ^ 35
+  pub left : u.left + (x - 65536) ≤ 2 ^ 35
+  pub bits : bit_before u (x - 65536) (y - 65536) ≤ 2 ^ 35
 
 module _ (u : Surface) (s : Trace) (i : ℕ) (l : Locatable u s i) {at : ℕ} (e : at ≡ minor_of s.axes i) where
   pub offset_small : at ≤ 32768
@@ -122,31 +118,28 @@ module _ (u : Surface) (s : Trace) (i : ℕ) (l : Locatable u s i) {at : ℕ} (e
     y_kept = kept s.y oy (row_on s i) s.heading.up
         (ap (λ (k : ℕ). unbiased s.y +ℤ directed s.heading.up k) (ey ∙ ap (λ (k : ℕ). cond s.axes.level k i) e) ∙ l.located.y)
 
-    pub x_moves : (s.heading.left ≡ true → ox ≤ s.x) × (s.x + ox < 2 ^ 64)
-    x_moves = (x_kept.enough, omega (arith, either_most s.axes.level i at ex, offset_small, l.located.number, l.small.sloped.small, l.small.x))
-
-    pub y_moves : (s.heading.up ≡ true → oy ≤ s.y) × (s.y + oy < 2 ^ 64)
-    y_moves = (y_kept.enough, omega (arith, either_most s.axes.level at i ey, offset_small, l.located.number, l.small.sloped.small, l.small.y))
-
-    pub spot_sized : (x y : ℕ) → x ≡ cond s.heading.left (s.x - ox) (s.x + ox) → y ≡ cond s.heading.up (s.y - oy) (s.y + oy) → SpotSized u s i x y
-    spot_sized x y p q =
-        let f = p ∙ x_kept.sum in
-        let g = q ∙ y_kept.sum in
+    pub spot_sized : {dx dy : ℕ} → dx ≡ step_of s.heading.left ox → dy ≡ step_of s.heading.up oy
+        → SpotSized u s i ((s.x + dx) % 2 ^ 64) ((s.y + dy) % 2 ^ 64)
+    spot_sized {dx} {dy} p q =
         let b = bits_few u l.right l.near (column_on s i) (row_on s i) l.located.column l.located.row in
         let d = depth_bounds l.depth in
         let m : (u.left + column_on s i) * 1 ≤ (u.left + column_on s i) * u.bits = mul-le-mul_left (u.left + column_on s i) d.0 in
         let w : (u.left + u.width) * 1 ≤ (u.left + u.width) * u.bits = mul-le-mul_left (u.left + u.width) d.0 in
         let v : 0 < u.words = omega (arith, l.right, l.located.column) in
         let t : 1 * (u.top + row_on s i) ≤ u.words * (u.top + row_on s i) = mul-le-mul_right (u.top + row_on s i) v in
+        let e = moved_to s.x ox (column_on s i) s.heading.left x_kept (omega (arith, l.small.x)) (omega arith) in
+        let f = moved_to s.y oy (row_on s i) s.heading.up y_kept (omega (arith, l.small.y)) (omega arith) in
+        let c : (s.x + dx) % 2 ^ 64 - 65536 ≡ column_on s i = rw p (omega arith) in
+        let r : (s.y + dy) % 2 ^ 64 - 65536 ≡ row_on s i = rw q (omega arith) in
         record {
-          column = omega arith;
-          row = omega arith;
-          east = omega arith;
-          south = omega arith;
+          column = c;
+          row = r;
+          east = rw p (omega arith);
+          south = rw q (omega arith);
           top = omega arith;
-          rows = omega arith;
+          rows = rw r (omega arith);
           left = omega arith;
-          bits = b;
+          bits = rw (c, r) b;
         }
 
 -- one step and another are their sum

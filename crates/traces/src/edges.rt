@@ -1,5 +1,5 @@
 // Which pixels of a trace lie in the clip, worked out before any is drawn: they follow one another.
-ghost use Rattle.std.specs.Prelude.{◌≡◌, ◌+◌, ◌≤◌, max};
+ghost use Rattle.std.specs.Prelude.{◌+◌, ◌≤◌};
 ghost use Rattle.traces.specs.Slopes.{Sloped};
 ghost use Rattle.traces.specs.Traces.{TraceSmall};
 ghost use Rattle.traces.specs.Edges.{Joint, TraceEdges};
@@ -9,13 +9,6 @@ use crate::slopes::{Axes, reach};
 use coordinates::{Edges, edges_between};
 use model::Clip;
 
-// The larger of two numbers.
-fn larger(a: usize, b: usize) -> usize
-    ensures { result ≡ max a b }
-{
-    if a < b { b } else { a }
-}
-
 // Of a line's pixels from `first` on, those whose number is among the one's edges and whose minor offset is among
 // the other's.
 fn joint(axes: Axes, first: usize, major: Edges, minor: Edges) -> Edges
@@ -24,7 +17,7 @@ fn joint(axes: Axes, first: usize, major: Edges, minor: Edges) -> Edges
 {
     let from = reach(axes, minor.first);
     let end = reach(axes, minor.second);
-    let start = larger(first, larger(major.first, from));
+    let start = first.max(major.first.max(from));
     coordinates::among(start, end, major.second)
 }
 
@@ -35,14 +28,16 @@ pub fn edges_of(clip: Clip, s: Trace) -> Edges
 {
     let axes = s.axes;
     let heading = s.heading;
-    let n = axes.larger + 1;
-    let m = axes.smaller + 1;
+    let (across, down) = if axes.level {
+        (axes.larger + 1, axes.smaller + 1)
+    } else {
+        (axes.smaller + 1, axes.larger + 1)
+    };
+    let columns = edges_between(s.x, heading.left, across, clip.xmin, clip.xmax);
+    let rows = edges_between(s.y, heading.up, down, clip.ymin, clip.ymax);
     if axes.level {
-        let columns = edges_between(s.x, heading.left, n, clip.xmin, clip.xmax);
-        let rows = edges_between(s.y, heading.up, m, clip.ymin, clip.ymax);
-        return joint(axes, s.first, columns, rows);
+        joint(axes, s.first, columns, rows)
+    } else {
+        joint(axes, s.first, rows, columns)
     }
-    let columns = edges_between(s.x, heading.left, m, clip.xmin, clip.xmax);
-    let rows = edges_between(s.y, heading.up, n, clip.ymin, clip.ymax);
-    joint(axes, s.first, rows, columns)
 }

@@ -12,6 +12,7 @@ ghost use Rattle.raster.specs.Operations.{truth_of};
 ghost use Rattle.canvas.specs.Canvas.{canvas, count_end, Painted};
 ghost use Rattle.canvas.specs.Targets.{Ready};
 ghost use Rattle.stamps.specs.Stamps.{StampsOf};
+ghost use Rattle.spans.specs.Spans.{Sighted};
 ghost use Rattle.traces.specs.Slopes.{longest_line};
 ghost use Rattle.traces.specs.Traces.{TraceSmall, trace_dots};
 ghost use Rattle.traces.specs.Edges.{TraceEdges};
@@ -40,9 +41,7 @@ pub fn stamps_of(t: Target) -> [u8; 64]
     requires { Depth t.area.surface.bits × (t.truth ≡ truth_of t.pen.op) }
     ensures { StampsOf t.pen t.area.surface.bits result }
 {
-    let area = t.area;
-    let u = area.surface;
-    stamps::stamps_of(t.pen, t.truth, u.bits)
+    stamps::stamps_of(t.pen, t.truth, t.area.surface.bits)
 }
 
 // The visible pixels of a trace drawn on the bitmap, by the stamps of its pen.
@@ -55,16 +54,32 @@ fn draw_part(screen: &mut [u8], store: &mut [u8], stamps: &[u8], t: Target, s: T
         × (store.new ≡ cond t.area.onscreen store.old
         (traced t s store.old)) }
 {
-    let area = t.area;
-    if area.onscreen {
+    // Called in each branch: for a `&mut` that is one of two, no proof is generated.
+    if t.area.onscreen {
         walk(screen, stamps, t, s, e);
     } else {
         walk(store, stamps, t, s, e);
     }
 }
 
-// A trace drawn by the stamps of its pen: hits and how many of its pixels are visible. Which these are is worked out
-// first.
+// Hits and how many of a trace's pixels are visible, and the edges of what is to be drawn, if anything is.
+fn sighted(t: Target, s: Trace, hits: usize) -> (usize, Option<Edges>)
+    requires { (t.clip.xmax < t.area.surface.width) × (t.clip.ymax < t.area.surface.height)
+        × TraceSmall s × (hits + longest_line < count_end) }
+    ensures { Sighted (TraceEdges t.clip s) t (trace_dots t.pen s) hits result.0 result.1 }
+{
+    let e = edges_of(t.clip, s);
+    if e.first == e.second {
+        return (hits, None);
+    }
+    let seen = hits + spans::seen_of(t.pen, s.index + (e.first - s.first), e.second - e.first);
+    if t.picking {
+        return (seen, None);
+    }
+    (seen, Some(e))
+}
+
+// A trace drawn by the stamps of its pen: hits and how many of its pixels are visible.
 pub fn draw_trace(
     screen: &mut [u8],
     store: &mut [u8],
@@ -78,25 +93,24 @@ pub fn draw_trace(
     ensures { Painted t (trace_dots t.pen s)
         (canvas screen.old store.old hits) (canvas screen.new store.new result) }
 {
-    let e = edges_of(t.clip, s);
-    if e.first == e.second {
-        return hits;
+    let (seen, part) = sighted(t, s, hits);
+    if let Some(e) = part {
+        draw_part(screen, store, stamps, t, s, e);
     }
-    let seen = hits + spans::seen_of(t.pen, s.index + (e.first - s.first), e.second - e.first);
-    if t.picking {
-        return seen;
-    }
-    draw_part(screen, store, stamps, t, s, e);
     seen
 }
 
-// A trace by itself, which works out its own stamps.
+// A trace drawn by itself: its stamps are worked out once it is known that some of it is to be drawn.
 pub fn lone_trace(screen: &mut [u8], store: &mut [u8], t: Target, s: Trace, hits: usize) -> usize
     requires { Ready t (length screen.old) (length store.old) × TraceSmall s
         × (hits + longest_line < count_end) }
     ensures { Painted t (trace_dots t.pen s)
         (canvas screen.old store.old hits) (canvas screen.new store.new result) }
 {
-    let stamps = stamps_of(t);
-    draw_trace(screen, store, &stamps, t, s, hits)
+    let (seen, part) = sighted(t, s, hits);
+    if let Some(e) = part {
+        let stamps = stamps_of(t);
+        draw_part(screen, store, &stamps, t, s, e);
+    }
+    seen
 }

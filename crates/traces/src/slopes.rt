@@ -39,6 +39,7 @@ pub fn slope_at(axes: Axes, i: usize) -> Slope
 }
 
 // The first pixel of a line whose minor offset is a or more; the one after the last if there is none.
+#[tactic(auto, using(crate::proofs::SlopeLaws::reaches_ceil))]
 pub fn reach(axes: Axes, a: usize) -> usize
     requires { Sloped axes }
     ensures { Reaches axes a result }
@@ -49,6 +50,5 @@ pub fn reach(axes: Axes, a: usize) -> usize
     if axes.smaller < a {
         return axes.larger + 1;
     }
-    let rise = 2 * axes.smaller;
-    (2 * axes.larger * a - axes.larger + (rise - 1)) / rise
+    (2 * axes.larger * a - axes.larger).div_ceil(2 * axes.smaller)
 }

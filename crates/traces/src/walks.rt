@@ -1,6 +1,6 @@
 // The visible pixels of a trace, from one to the next: where a pixel lies is stepped, and nothing is tested but whether
 // the step is straight or diagonal.
-ghost use Rattle.std.specs.Prelude.{◌≡◌, ◌+◌, ◌-◌, ◌*◌, ◌^◌, ◌<◌, ◌≤◌, true, length, if◌then◌else◌};
+ghost use Rattle.std.specs.Prelude.{◌≡◌, ℕ, ◌+◌, ◌-◌, ◌*◌, ◌^◌, ◌<◌, ◌≤◌, length};
 ghost use Rattle.stamps.specs.Stamps.{StampsOf};
 ghost use Rattle.traces.specs.Slopes.{Sloped};
 ghost use Rattle.traces.specs.Walks.{step_of, steps_of, next_spot, spot_at, Locatable};
@@ -11,8 +11,7 @@ use crate::slopes::slope_at;
 use canvas::Target;
 use coordinates::Edges;
 use model::Surface;
-use stamps::{stamp, turned};
-use std::num::{wrapping_add_usize, wrapping_sub_usize};
+use stamps::stamp;
 
 // The two steps of a line, in bits from pixel to pixel: along the major axis, or along both. The rest of a pixel's
 // minor offset tells which: below `over` the step is straight and the rest becomes larger by `rise`, else smaller by
@@ -32,14 +31,11 @@ pub struct Spot {
     pub rest: usize,
 }
 
-// So many bits on, or back.
+// So many on, or back: added to a number, it wraps.
 fn step_of(back: bool, n: usize) -> usize
     ensures { result ≡ step_of back n }
 {
-    if back {
-        return wrapping_sub_usize(0, n);
-    }
-    n
+    if back { n.wrapping_neg() } else { n }
 }
 
 // The steps of a trace.
@@ -53,22 +49,11 @@ fn steps_of(u: Surface, s: Trace) -> Steps
     let down = step_of(heading.up, 16 * u.words);
     let rise = 2 * axes.smaller;
     Steps {
-        straight: words::either(axes.level, across, down),
-        diagonal: wrapping_add_usize(across, down),
+        straight: if axes.level { across } else { down },
+        diagonal: across.wrapping_add(down),
         rise,
         over: 2 * axes.larger - rise,
     }
-}
-
-// A coordinate so many pixels on, or back.
-fn moved(z: usize, back: bool, k: usize) -> usize
-    requires { (back ≡ true → k ≤ z) × (z + k < 2 ^ 64) }
-    ensures { result ≡ (if back then z - k else z + k) }
-{
-    if back {
-        return z - k;
-    }
-    z + k
 }
 
 // Where pixel i of a trace lies, which is a pixel of the surface.
@@ -79,8 +64,13 @@ fn spot_of(u: Surface, s: Trace, i: usize) -> Spot
     let axes = s.axes;
     let heading = s.heading;
     let slope = slope_at(axes, i);
-    let x = moved(s.x, heading.left, words::either(axes.level, i, slope.at));
-    let y = moved(s.y, heading.up, words::either(axes.level, slope.at, i));
+    let (across, down) = if axes.level {
+        (i, slope.at)
+    } else {
+        (slope.at, i)
+    };
+    let x = s.x.wrapping_add(step_of(heading.left, across));
+    let y = s.y.wrapping_add(step_of(heading.up, down));
     let before = 16 * (u.words * (u.top + (y - 65536)));
     Spot {
         bit: before + (u.left + (x - 65536)) * u.bits,
@@ -94,55 +84,80 @@ fn next_spot(s: Spot, g: Steps) -> Spot
     ensures { result ≡ next_spot s g }
 {
     if s.rest < g.over {
-        return Spot {
-            bit: wrapping_add_usize(s.bit, g.straight),
+        Spot {
+            bit: s.bit.wrapping_add(g.straight),
             rest: s.rest + g.rise,
-        };
-    }
-    Spot {
-        bit: wrapping_add_usize(s.bit, g.diagonal),
-        rest: s.rest - g.over,
-    }
-}
-
-// n pixels from a spot on, all stamped under a pattern's 1.
-fn walk_solid(buffer: &mut [u8], stamps: &[u8], base: usize, from: Spot, g: Steps, n: usize)
-    requires { Walkable base from g n (length stamps.now) (length buffer.old) }
-    ensures { buffer.new ≡ walked stamps.now base from g solid n buffer.old }
-{
-    let mut spot = from;
-    stamp(buffer, stamps, base, spot.bit, 1);
-    let mut i = 0;
-    while i + 1 < n {
-        spot = next_spot(spot, g);
-        stamp(buffer, stamps, base, spot.bit, 1);
-        i += 1;
+        }
+    } else {
+        Spot {
+            bit: s.bit.wrapping_add(g.diagonal),
+            rest: s.rest - g.over,
+        }
     }
 }
 
-// n pixels from a spot on, stamped under the bits of a pattern.
-fn walk_dashed(
+// The bits that a line's pixels are stamped under, from one pixel on.
+trait Dashes: Copy {
+    ghost digits: { Self → ℕ → ℕ };
+
+    // That of the pixel.
+    fn first(self) -> usize
+        ensures { (result ≡ digits self 0) × (result < 2) };
+
+    // Those from the next pixel on.
+    fn turned(self) -> Self
+        ensures { (k : ℕ) → digits result k ≡ digits self (k + 1) };
+}
+
+// Ones alone.
+#[derive(Clone, Copy)]
+struct Solid;
+
+impl Dashes for Solid {
+    ghost digits = { λ _. solid };
+
+    fn first(self) -> usize {
+        1
+    }
+
+    fn turned(self) -> Solid {
+        self
+    }
+}
+
+// A pattern's, over and over.
+impl Dashes for u16 {
+    ghost digits = { pattern_digit };
+
+    fn first(self) -> usize {
+        (self / 32768) as usize
+    }
+
+    fn turned(self) -> u16 {
+        stamps::turned(self)
+    }
+}
+
+// n pixels from a spot on, stamped under the bits of their dashes.
+fn walk_by<D: Dashes>(
     buffer: &mut [u8],
     stamps: &[u8],
     base: usize,
     from: Spot,
     g: Steps,
     n: usize,
-    pattern: u16,
+    dashes: D,
 )
     requires { Walkable base from g n (length stamps.now) (length buffer.old) }
-    ensures { buffer.new
-        ≡ walked stamps.now base from g (pattern_digit pattern) n buffer.old }
+    ensures { buffer.new ≡ walked stamps.now base from g (D.digits dashes) n buffer.old }
 {
     let mut spot = from;
-    let mut rest = pattern;
-    stamp(buffer, stamps, base, spot.bit, (rest / 32768) as usize);
-    let mut i = 0;
-    while i + 1 < n {
+    let mut rest = dashes;
+    stamp(buffer, stamps, base, spot.bit, rest.first());
+    for _ in 1..n {
         spot = next_spot(spot, g);
-        rest = turned(rest);
-        stamp(buffer, stamps, base, spot.bit, (rest / 32768) as usize);
-        i += 1;
+        rest = rest.turned();
+        stamp(buffer, stamps, base, spot.bit, rest.first());
     }
 }
 
@@ -158,14 +173,14 @@ pub fn walk(buffer: &mut [u8], stamps: &[u8], t: Target, s: Trace, e: Edges)
     ensures { buffer.new ≡ traced t s buffer.old }
 {
     let u = t.area.surface;
-    let pen = t.pen;
     let g = steps_of(u, s);
     let from = spot_of(u, s, e.first);
     let n = e.second - e.first;
-    let pattern = strips::patterns::rotate_left(pen.pattern, (e.first - s.first + s.index) % 16);
-    if (pattern == 65535) & !crowded(s.axes.level, u.words, n) {
-        walk_solid(buffer, stamps, u.base, from, g, n);
+    let pattern = strips::patterns::rotate_left(t.pen.pattern, (e.first - s.first + s.index) % 16);
+    // Both are worked out, by `&`: with `&&` the compiler makes other loops, which draw steep lines slower.
+    if (pattern == u16::MAX) & !crowded(s.axes.level, u.words, n) {
+        walk_by(buffer, stamps, u.base, from, g, n, Solid);
     } else {
-        walk_dashed(buffer, stamps, u.base, from, g, n, pattern);
+        walk_by(buffer, stamps, u.base, from, g, n, pattern);
     }
 }

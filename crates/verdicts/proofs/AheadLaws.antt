@@ -12,10 +12,11 @@ use Rattle.model.specs.declared.Row.{Row}
 use Rattle.model.specs.declared.Pane.{Pane}
 use Rattle.model.specs.declared.Command.{Command}
 use Rattle.model.specs.declared.Decoded.{Decoded}
-use Rattle.model.specs.declared.Decoded.TheVariants.{Do, End, Fault}
-use Rattle.model.specs.declared.Verdict.{Verdict}
-use Rattle.model.specs.declared.Verdict.TheVariants.{Clean, Found}
-use Rattle.model.specs.Numbers.{fault_barred, fault_long}
+use Rattle.model.specs.declared.Decoded.TheVariants.{Do, End}
+use Rattle.model.specs.declared.Decoded.TheVariants as decoded
+use Rattle.model.specs.declared.Fault.{Fault}
+use Rattle.model.specs.Numbers.{fault_barred, fault_long, fault_number}
+use Rattle.model.specs.Replies.{Verdict, Clean, Found}
 use Rattle.model.specs.Ranges.{or_else}
 use Rattle.model.specs.Commands.{decode}
 use Rattle.model.specs.Faults.{context_of, fault_of}
@@ -51,7 +52,7 @@ module _ (g : Geometry) (r : Row) (store : List ℕ) where
   -- an end word or a fault stands here, or a command that is followed, and the rest is ahead of what it leaves
   pub data Ahead (v : Verdict) : ℕ → Standing → Type 0 where
     ends : {s : Standing} (rest : ℕ) → decode r.len store s.pointer ≡ End → v ≡ Clean rest → Ahead v 0 s
-    fetches : {s : Standing} (f : ℕ) → decode r.len store s.pointer ≡ Fault f → v ≡ Found f s.pointer → Ahead v 0 s
+    fetches : {s : Standing} (f : Fault) → decode r.len store s.pointer ≡ decoded.Fault f → v ≡ Found (fault_number f) s.pointer → Ahead v 0 s
     faults : {s : Standing} (c : Command) (next : ℕ) → decode r.len store s.pointer ≡ Do c next → fault_of g r (context_in s) store c ≢ 0
         → v ≡ Found (fault_of g r (context_in s) store c) s.pointer → Ahead v 0 s
     goes : {n : ℕ} {s : Standing} (c : Command) (next : ℕ) → decode r.len store s.pointer ≡ Do c next → judged_fault g r (context_in s) store c ≡ 0
@@ -71,7 +72,7 @@ module _ (g : Geometry) (r : Row) (store : List ℕ) where
     last_walked : (d : Decoded) → here ≡ d → met_last p d ≡ v → Walked v 0 p
     unfolding met_last
     last_walked End e h = record { commands = 0; ahead = ends 0 e (sym h); gone = rw (← h) refl }
-    last_walked (Fault f) e h = real_long real h
+    last_walked (decoded.Fault f) e h = real_long real h
     last_walked (Do c next) e h = real_long real h
 
     -- the judge finds a fault with the command: 31, or its own
@@ -101,9 +102,10 @@ module _ (g : Geometry) (r : Row) (store : List ℕ) where
         → met g r store (suc k) (λ q. list_walk g r store k q) p d ≡ v → Walked v (suc k) p
     unfolding met judged_command
     met_walked k ih End e h = record { commands = 0; ahead = ends (suc k) e (sym h); gone = rw (← h) (omega arith) }
-    met_walked k ih (Fault f) e h = record { commands = 0; ahead = fetches f e (sym h); gone = gone_none f p.progress.pointer k h }
+    met_walked k ih (decoded.Fault f) e h = record { commands = 0; ahead = fetches f e (sym h); gone = gone_none (fault_number f) p.progress.pointer k h }
     met_walked k ih (Do c next) e h = split (eqb (judged_fault g r (context_of p) store c) 0)
-        (λ t. goes_walked k c next e (eqb-true (judged_fault g r (context_of p) store c) 0 t) (ih (record_after g r p store next c) (sym (cond_true _ _ t) ∙ h)))
+        (λ t. goes_walked k c next e (eqb-true (judged_fault g r (context_of p) store c) 0 t)
+        (ih (record_after g r p store next c) (sym (cond_true _ _ t) ∙ h)))
         (λ t. fault_walked k c next e (eqb-false (judged_fault g r (context_of p) store c) 0 t) (sym (cond_false _ _ t) ∙ h))
 
   pub walked : (v : Verdict) → Real v → (left : ℕ) (p : Pane) → list_walk g r store left p ≡ v → Walked v left p

@@ -14,12 +14,12 @@ use Rattle.model.specs.declared.Geometry.{Geometry}
 use Rattle.model.specs.declared.Row.{Row}
 use Rattle.model.specs.declared.Pane.{Pane}
 use Rattle.model.specs.declared.Ran.{Ran}
-use Rattle.model.specs.declared.Verdict.{Verdict}
 use Rattle.model.specs.Numbers.{status_running, status_trapped}
-use Rattle.model.specs.Replies.{Response}
+use Rattle.model.specs.Replies.{Response, Verdict}
 use Rattle.model.specs.Runs.{Finish, runs}
 use Rattle.model.specs.Setup.{trap_bad}
-use Rattle.model.specs.Calls.{State, Call, put, start, run, look, pixel, peek, clear, judge, switch, Request, on, part, own_refusal, refusal, record_of, on_pane}
+use Rattle.model.specs.Calls.{State, Call, put, start, run, look, pixel, peek, clear, judge, switch, Request, on, part, own_refusal, refusal}
+use Rattle.model.specs.Calls.{record_of, on_pane}
 use Rattle.model.specs.Calls.{released, ran_of, exec}
 use Rattle.model.proofs.Decisions.{split, and_true, cond_false}
 use Rattle.model.proofs.CallLaws.{exec_refused}

@@ -1,5 +1,5 @@
--- A call on a pane with a good record: no refusal but its own, and carried out it leaves what `on_pane` says. So a pane that is cleared and started stands where
--- the judge begins, with its store as it was.
+-- A call on a pane with a good record: no refusal but its own, and carried out it leaves what `on_pane` says. So a pane that is cleared and started
+-- stands where the judge begins, with its store as it was.
 use mathlib.Core.Path.{◌≡◌, sym, ap, subst, ◌∙◌}
 use Prim.Native.Nat.{ℕ}
 use borrow.Author.Tests.{lt-leb}
@@ -8,7 +8,8 @@ use Rattle.model.specs.declared.Row.{Row}
 use Rattle.model.specs.declared.Pane.{Pane}
 use Rattle.model.specs.Record.{fresh}
 use Rattle.model.specs.Setup.{pane_bad}
-use Rattle.model.specs.Calls.{State, Call, start, clear, on, Answer, Outcome, started, part, own_refusal, setup_refusal, call_checks, call_refusal, refusal, row_of}
+use Rattle.model.specs.Calls.{State, Call, start, clear, on, Answer, Outcome, started, part, own_refusal, setup_refusal, call_checks, call_refusal}
+use Rattle.model.specs.Calls.{refusal, row_of}
 use Rattle.model.specs.Calls.{record_of, store_of, on_pane, with_pane, accepted, exec}
 use Rattle.model.proofs.CallLaws.{exec_accepted}
 use Rattle.refusals.specs.Good.{Good}

@@ -14,9 +14,8 @@ use Rattle.model.specs.declared.Row.{Row}
 use Rattle.model.specs.declared.Pane.{Pane}
 use Rattle.model.specs.declared.Command.{Command}
 use Rattle.model.specs.declared.Decoded.TheVariants.{Do}
-use Rattle.model.specs.declared.Verdict.{Verdict}
-use Rattle.model.specs.declared.Verdict.TheVariants.{Clean, Found}
-use Rattle.model.specs.Numbers.{status_running, status_ended, status_faulted}
+use Rattle.model.specs.Numbers.{status_running, status_ended, status_faulted, fault_number}
+use Rattle.model.specs.Replies.{Verdict, Clean, Found}
 use Rattle.model.specs.Bitmaps.{pane_surface, pixels}
 use Rattle.model.specs.Record.{ended, faulted}
 use Rattle.model.specs.Commands.{decode}
@@ -82,7 +81,7 @@ module _ (g : Geometry) (r : Row) (store : List ℕ) (v : Verdict) where
     step_ahead n (ends rest e h) = subst (λ (f : Finish). DueAfter 0 f) (sym (step_end g r p screen store e))
         (record { due = subst (λ (x : Verdict). Reached x (ended p)) (sym h) refl; off = off; kept = refl })
     step_ahead n (fetches f e h) = subst (λ (x : Finish). DueAfter 0 x) (sym (step_fetch g r p screen store f e))
-        (record { due = subst (λ (x : Verdict). Reached x (faulted p f)) (sym h) refl; off = off; kept = refl })
+        (record { due = subst (λ (x : Verdict). Reached x (faulted p (fault_number f))) (sym h) refl; off = off; kept = refl })
     step_ahead n (faults c next e z h) = subst (λ (f : Finish). DueAfter 0 f) (sym (step_fault g r p screen store c next e z))
         (record { due = subst (λ (x : Verdict). Reached x (faulted p (fault_of g r (context_of p) store c))) (sym h) refl; off = off; kept = refl })
     step_ahead n (goes {n = k} c next e z w) = step_on k c next e z w

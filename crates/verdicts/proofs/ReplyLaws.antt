@@ -1,12 +1,9 @@
 -- What the judge's reply says: the call was not refused, and the walk from a pane that is cleared and started at the address gives that verdict.
 use mathlib.Core.Path.{◌≡◌, refl, sym, ap, ◌∙◌}
 use Prim.Native.Nat.{ℕ, ◌-◌}
-use native.Mathlib.Omega.{arith}
 use borrow.Author.Tests.{eqb-true, eqb-false}
 use lib.Dec.{eqb}
-use Rattle.model.specs.declared.Verdict.{Verdict}
-use Rattle.model.specs.declared.Verdict.TheVariants.{Clean, Found}
-use Rattle.model.specs.Replies.{refused_with, accepted_with, verdict_values}
+use Rattle.model.specs.Replies.{Verdict, Clean, Found, refused_with, accepted_with, verdict_values}
 use Rattle.model.specs.Record.{fresh}
 use Rattle.model.specs.Judge.{most_walked, tallied, list_walk, verdict_of}
 use Rattle.model.specs.Calls.{State, judge, on, Answer, started, refusal, row_of, store_of, on_pane, with_pane, accepted}
@@ -18,8 +15,8 @@ use Rattle.verdicts.specs.Verdicts.{JudgedAs}
 
 values_same : (u v : Verdict) → accepted_with (verdict_values u) ≡ accepted_with (verdict_values v) → u ≡ v
 values_same (Clean m) (Clean n) e = cc
-values_same (Clean m) (Found f a) e = absurd (let z : ◌≡◌ {A = ℕ} 0 1 = cc in omega arith)
-values_same (Found f a) (Clean n) e = absurd (let z : ◌≡◌ {A = ℕ} 0 1 = cc in omega arith)
+values_same (Clean m) (Found f a) e = cc
+values_same (Found f a) (Clean n) e = cc
 values_same (Found f a) (Found h b) e = cc
 
 -- a clean walk that leaves a rest, with the number that is tallied
@@ -30,10 +27,10 @@ pub record CleanWith (u : Verdict) (n : ℕ) : Type 0 where
 
 tallied_clean : (u : Verdict) (n : ℕ) → tallied u ≡ Clean n → CleanWith u n
 tallied_clean (Clean rest) n e = record { rest = rest; same = refl; count = cc }
-tallied_clean (Found f a) n e = absurd (let z : ◌≡◌ {A = ℕ} 0 1 = cc in omega arith)
+tallied_clean (Found f a) n e = cc
 
 tallied_found : (u : Verdict) (f a : ℕ) → tallied u ≡ Found f a → u ≡ Found f a
-tallied_found (Clean rest) f a e = absurd (let z : ◌≡◌ {A = ℕ} 0 1 = cc in omega arith)
+tallied_found (Clean rest) f a e = cc
 tallied_found (Found b c) f a e = e
 
 -- ## The reply
@@ -43,8 +40,7 @@ module _ (s : State) (k a : ℕ) where
   judged_open v j = split (eqb (refusal s (on k (judge a))) 0) (eqb-true (refusal s (on k (judge a))) 0) λ t.
       let d = exec_refused s (on k (judge a)) (eqb-false (refusal s (on k (judge a))) 0 t) in
       let n : refused_with (refusal s (on k (judge a))) ≡ accepted_with (verdict_values v) = sym (ap (λ (x : Answer). x.reply) d) ∙ j in
-      let z : ◌≡◌ {A = ℕ} 0 1 = cc in
-      absurd (omega arith)
+      cc
 
   -- the walk
   abbrev pub walk_of : Verdict

@@ -11,7 +11,10 @@ use Rattle.model.specs.declared.Bitmap.{Bitmap}
 use Rattle.model.specs.declared.Bitmap.TheVariants as bitmap
 use Rattle.model.specs.declared.Command.{Command}
 use Rattle.model.specs.declared.Decoded.{Decoded}
-use Rattle.model.specs.declared.Decoded.TheVariants.{Do, End, Fault}
+use Rattle.model.specs.declared.Decoded.TheVariants.{Do, End}
+use Rattle.model.specs.declared.Decoded.TheVariants as decoded
+use Rattle.model.specs.declared.Fault.{Fault}
+use Rattle.model.specs.Numbers.{fault_number}
 use Rattle.model.specs.Bitmaps.{pane_surface, pixels, surface_of}
 use Rattle.model.specs.Record.{ended, faulted}
 use Rattle.model.specs.Pixels.{Change}
@@ -50,10 +53,10 @@ module _ (g : Geometry) (r : Row) (p : Pane) (screen store : List ℕ) where
   unfolding obey
   step_end e = stepped_as End e
 
-  pub step_fetch : (f : ℕ) → decode r.len store p.progress.pointer ≡ Fault f
-      → stepped g r p screen store ≡ carried g r (stopped (faulted p f) store) screen
+  pub step_fetch : (f : Fault) → decode r.len store p.progress.pointer ≡ decoded.Fault f
+      → stepped g r p screen store ≡ carried g r (stopped (faulted p (fault_number f)) store) screen
   unfolding obey
-  step_fetch f e = stepped_as (Fault f) e
+  step_fetch f e = stepped_as (decoded.Fault f) e
 
   module _ (c : Command) (next : ℕ) (e : decode r.len store p.progress.pointer ≡ Do c next) where
     pub step_fault : (fault_of g r (context_of p) store c ≡ 0 → ⊥)

@@ -10,9 +10,8 @@ use Rattle.model.specs.declared.Geometry.{Geometry}
 use Rattle.model.specs.declared.Row.{Row}
 use Rattle.model.specs.declared.Pane.{Pane}
 use Rattle.model.specs.declared.Progress.{Progress}
-use Rattle.model.specs.declared.Verdict.{Verdict}
-use Rattle.model.specs.declared.Verdict.TheVariants.{Clean, Found}
 use Rattle.model.specs.Numbers.{status_running, status_ended, status_faulted, fault_barred, fault_long}
+use Rattle.model.specs.Replies.{Verdict, Clean, Found}
 use Rattle.model.specs.Record.{fresh}
 use Rattle.model.specs.Judge.{most_walked}
 use Rattle.model.specs.Calls.{State, start, clear, judge, Request, on, started, part, own_refusal, setup_refusal, call_checks, call_refusal, refusal, row_of}

@@ -73,7 +73,9 @@ cut_list = 0 ∷ 0x02 ∷ []
 abbrev pub all_lists : List ℕ
 all_lists =
     page_list
-    ++ (colour_list ++ (pair_list ++ (link_list ++ (bitmap_list ++ (long_list ++ (level_lists ++ (last_list ++ cut_list)))))))
+    ++ (colour_list
+    ++ (pair_list
+    ++ (link_list ++ (bitmap_list ++ (long_list ++ (level_lists ++ (last_list ++ cut_list)))))))
 
 abbrev pub one_pane : State
 one_pane = record {

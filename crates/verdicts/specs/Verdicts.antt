@@ -7,10 +7,9 @@
 use Rattle.std.specs.Prelude.{◌≡◌, ◌≢◌, cond, List, [], ◌∷◌, ℕ, ◌+◌, ◌≤◌, ◌<◌, eqb, length, get_or}
 use Rattle.model.specs.declared.Ran.{Ran}
 use Rattle.model.specs.declared.Progress.{Progress}
-use Rattle.model.specs.declared.Verdict.{Verdict}
-use Rattle.model.specs.declared.Verdict.TheVariants.{Clean, Found}
 use Rattle.model.specs.Numbers.{status_running, status_ended, status_faulted, fault_barred, fault_long}
-use Rattle.model.specs.Replies.{Response, refused_with, accepted_with, ran_values, verdict_values}
+use Rattle.model.specs.Replies.{Response, refused_with, accepted_with, ran_values}
+use Rattle.model.specs.Replies.{Verdict, Clean, Found, verdict_values}
 use Rattle.model.specs.Judge.{most_walked}
 use Rattle.model.specs.Calls.{State, Call, put, start, run, look, pixel, peek, clear, judge, switch, Request, on}
 use Rattle.model.specs.Calls.{refusal, record_of, exec}

@@ -1,48 +1,42 @@
--- `batches::batch_on` meets its contract. The invariant: with what is left to run, what was done gives the whole run. Each way through the
--- loop's body is one command more.
+-- `batches::batch_on` meets its contract: each way through the loop's body is one command more.
+use mathlib.Core.Path.{◌≡◌, refl, sym, ◌∙◌}
 use native.Mathlib.Omega.{arith}
-use borrow.Author.Tests.{not-false}
-use Rattle.batches.proofs.HeadLaws.{move_told}
-use Rattle.batches.proofs.BatchLaws.{batching_none, batching_move, batching_line, batching_circle}
+use Rattle.canvas.specs.Canvas.{canvas, Painted}
+use Rattle.batches.proofs.StepLaws.{dots_by}
+use Rattle.batches.proofs.BatchLaws.{batching_none, batching_next, head_few, line_painted, none_painted}
 use Rattle.batches.proofs.batch_on.Goals as goal
+use Rattle.batches.proofs.batch_on.Goals.{Joined-head, in-Line, in-Circle, in_default-head}
 
 pub loop-count-init : goal.loop-count-init
 loop-count-init c = batching_none _ _ _ _ _ _
 
--- LINE: an opcode that is not 0 stands at the pointer
+-- the command, drawn
+drawn : (c : Joined-head) → Painted c.args.t (dots_by c.args.t.pen c.loop-count.position c.match-head.head) (canvas c.loop-count.screen c.loop-count.store 0)
+    (canvas c.match-head.screen c.match-head.store c.match-head.hits)
+drawn c = elim c.match-head.branch [
+  | in-Line w ↦
+      rw (w.head-is, w.screen-is, w.store-is, w.hits-is)
+      (line_painted _ _ _ _ _ _ w.whole_line.ensures.0 w.trace_of-line.ensures w.draw_trace-hits.ensures)
+  | in-Circle w ↦ rw (w.head-is, w.screen-is, w.store-is, w.hits-is) (rw w.magnitude-r.ensures.0 at w.draw_circle-hits.ensures)
+  | in_default-head w ↦
+      rw (w.head-is, w.screen-is, w.store-is, w.hits-is) (none_painted _ _ _ _ w.in_default-head.not-Line w.in_default-head.not-Circle)
+]
+
+-- .. is the one that stands at the pointer
+same : (c : Joined-head) → c.in-Some.head ≡ c.match-head.head
+same c = elim c.match-head.branch [
+  | in-Line w ↦ w.in-Line.is ∙ sym w.head-is
+  | in-Circle w ↦ w.in-Circle.is ∙ sym w.head-is
+  | in_default-head w ↦ sym w.head-is
+]
+
 pub overflow_add-paint : goal.overflow_add-paint
 overflow_add-paint c =
-    let stands = c.head_at-h.ensures (λ z. let f : ⊥ = omega arith in f) in
-    let line = batching_line c.loop-count.invariant c.loop-count-test.true c.head_at-h.result stands _ _ c.draw_trace.result _ _
-    c.draw_trace.auto.screen c.draw_trace.auto.store c.if-h-eq-LINE.true c.whole_line.ensures.0 c.trace_of-line.ensures c.draw_trace.ensures in
-    omega (arith, line.few, line.spent, c.ranges.budget.fits)
+    let few = head_few _ _ _ _ _ _ _ _ (drawn (goal.at.overflow_add-paint c).Joined-head) in
+    omega arith
 
-pub loop-count-preserved-then-h-eq-LINE : goal.loop-count-preserved-then-h-eq-LINE
-loop-count-preserved-then-h-eq-LINE c =
-    let stands = c.head_at-h.ensures (λ z. let f : ⊥ = omega arith in f) in
-    let line = batching_line c.loop-count.invariant c.loop-count-test.true c.head_at-h.result stands _ _ c.draw_trace.result _ _
-    c.draw_trace.auto.screen c.draw_trace.auto.store c.if-h-eq-LINE.true c.whole_line.ensures.0 c.trace_of-line.ensures c.draw_trace.ensures in
-    rw c.move_by-position.ensures line
-
--- CIRCLE
-pub overflow_add-paint-then-h : goal.overflow_add-paint-then-h
-overflow_add-paint-then-h c =
-    let stands = c.head_at-h.ensures (λ z. let f : ⊥ = omega arith in f) in
-    let ring = batching_circle c.loop-count.invariant c.loop-count-test.true c.head_at-h.result stands _ c.draw_circle.result _ _
-    c.draw_circle.auto.screen c.draw_circle.auto.store c.if-h.true c.magnitude-r.ensures.0 c.draw_circle.ensures in
-    omega (arith, ring.few, ring.spent, c.ranges.budget.fits)
-
-pub loop-count-preserved-then-h : goal.loop-count-preserved-then-h
-loop-count-preserved-then-h c =
-    let stands = c.head_at-h.ensures (λ z. let f : ⊥ = omega arith in f) in
-    let ring = batching_circle c.loop-count.invariant c.loop-count-test.true c.head_at-h.result stands _ c.draw_circle.result _ _
-    c.draw_circle.auto.screen c.draw_circle.auto.store c.if-h.true c.magnitude-r.ensures.0 c.draw_circle.ensures in
-    ring
-
--- a command that only moves
 pub loop-count-preserved : goal.loop-count-preserved
 loop-count-preserved c =
-    let done = not-false c.moved_by-m.result.done c.if-not-m.false in
-    batching_move c.loop-count.invariant c.loop-count-test.true c.head_at-h.result
-    (c.head_at-h.ensures (move_told _ _ c.head_at-h.result c.moved_by-m.result c.moved_by-m.ensures done))
-    c.moved_by-m.result c.moved_by-m.ensures done
+    let j = (goal.at.loop-count-preserved c).Joined-head in
+    batching_next c.loop-count.invariant c.loop-count-test.true c.match-head.head _ _ _ _ _ (rw (same j) at c.in-Some.ensures)
+    c.moved_by-next.ensures c.match-head.auto.screen c.match-head.auto.store refl (drawn j)

@@ -1,11 +1,7 @@
--- `batches::batch_on` meets its contract. The invariant: with what is left to run, what was done gives the whole run. Each way through the
--- loop's body is one command more.
-use Prim.Native.Nat.{◌-◌}
+-- `batches::batch_on` meets its contract. The invariant: with what is left to run, what was done gives the whole run.
 use Rattle.batches.proofs.BatchLaws.{Batching}
 use Rattle.batches.proofs.batch_on.Given as goal
 
 abbrev pub invariant-loop-count : goal.invariant-loop-count
-invariant-loop-count l = Batching l.t l.initial.pointer l.initial.position l.budget l.initial.screen l.initial.store l.screen l.store l.pointer l.position l.count l.paint
-
-abbrev pub decreases-loop-count : goal.decreases-loop-count
-decreases-loop-count l = l.budget - l.count
+invariant-loop-count l =
+    Batching l.t l.initial.pointer l.initial.position l.budget l.initial.screen l.initial.store l.screen l.store l.pointer l.position l.count l.paint

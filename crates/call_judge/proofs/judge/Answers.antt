@@ -1,29 +1,26 @@
 -- The judge is lent the pane's part of the stores, answers what the walk says of it, and keeps everything.
 use mathlib.Core.Path.{refl, ap}
-use Rattle.model.specs.declared.Verdict.{Verdict}
 use Rattle.model.specs.declared.Reply.TheVariants as reply
-use Rattle.model.specs.Replies.{accepted_with, verdict_values}
+use Rattle.model.specs.Replies.{Verdict, accepted_with, verdict_values}
 use Rattle.model.specs.Calls.{judge, part, own_refusal, on_pane}
 use Rattle.call_common.proofs.CallLaws.{exec_refused, exec_refused_own, exec_kept}
 use Rattle.call_judge.proofs.FreshLaws.{granted_checkable}
 use Rattle.call_judge.proofs.judge.Goals as goal
 
-pub returns-then-admission-ne0 : goal.returns-then-admission-ne0
-returns-then-admission-ne0 c = exec_refused _ _ _ c.admit-admission.ensures c.refused.ensures c.if-admission-ne0.true
+pub returns-in-Err : goal.returns-in-Err
+returns-in-Err c = exec_refused _ _ _ c.in-Err.ensures c.refused.ensures
 
-pub returns-then-own-ne0 : goal.returns-then-own-ne0
+pub returns-in-Err-check_start : goal.returns-in-Err-check_start
 unfolding own_refusal
-returns-then-own-ne0 c =
-    exec_refused_own _ _ (judge _) c.admit-admission.ensures c.if-admission-ne0.false c.start_refusal-own.ensures
-    c.refused-then-own-ne0.ensures c.if-own-ne0.true
+returns-in-Err-check_start c =
+    exec_refused_own _ _ (judge _) c.in-Ok.ensures c.in-Err-check_start.ensures c.refused-in-Err-check_start.ensures
 
 pub judge-verdict-requires : goal.judge-verdict-requires
 unfolding part
-judge-verdict-requires c =
-    granted_checkable _ (c.admit-admission.ensures.granted c.if-admission-ne0.false)
+judge-verdict-requires c = granted_checkable _ c.in-Ok.ensures
 
 pub returns : goal.returns
 unfolding own_refusal part on_pane
 returns c =
-    exec_kept _ _ (judge _) c.admit-admission.ensures c.if-admission-ne0.false c.start_refusal-own.ensures c.if-own-ne0.false refl
-    (reply.Judged c.judge-verdict.result) (ap (λ (v : Verdict). accepted_with (verdict_values v)) c.judge-verdict.ensures)
+    rw c.replied.ensures (exec_kept _ _ (judge _) c.in-Ok.ensures c.in_default.ensures refl
+    (reply.Judged c.judge-verdict.result) (ap (λ (v : Verdict). accepted_with (verdict_values v)) c.judge-verdict.ensures))

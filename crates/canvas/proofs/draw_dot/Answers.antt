@@ -14,15 +14,15 @@ returns-in_default-index_between c = sym (painted_outside_y _ _ _ (sym c.index_b
 
 pub plot-requires : goal.plot-requires
 plot-requires c =
-    let ix = index_clipped c.args.t.clip.xmin c.args.t.clip.xmax _ _ (sym c.index_between.ensures ∙ c.in-At.is) in
-    let iy = index_clipped c.args.t.clip.ymin c.args.t.clip.ymax _ _ (sym c.index_between-2.ensures ∙ c.in-At-index_between.is) in
+    let ix = index_clipped c.args.t.clip.xmin c.args.t.clip.xmax _ _ (sym c.index_between.ensures ∙ c.in-Some.is) in
+    let iy = index_clipped c.args.t.clip.ymin c.args.t.clip.ymax _ _ (sym c.index_between-2.ensures ∙ c.in-Some-index_between.is) in
     let pre = c.requires in
     (pre.0, record { west = ix.low; east = ix.high; north = iy.low; south = iy.high }, pre.3)
 
 pub returns : goal.returns
 returns c =
-    let ix = index_clipped c.args.t.clip.xmin c.args.t.clip.xmax _ _ (sym c.index_between.ensures ∙ c.in-At.is) in
-    let iy = index_clipped c.args.t.clip.ymin c.args.t.clip.ymax _ _ (sym c.index_between-2.ensures ∙ c.in-At-index_between.is) in
+    let ix = index_clipped c.args.t.clip.xmin c.args.t.clip.xmax _ _ (sym c.index_between.ensures ∙ c.in-Some.is) in
+    let iy = index_clipped c.args.t.clip.ymin c.args.t.clip.ymax _ _ (sym c.index_between-2.ensures ∙ c.in-Some-index_between.is) in
     let a = c.args in
     c.plot.ensures
     ∙ (λ i. painted a.t (dot (at (sym ix.is i) (sym iy.is i)) a.source) (canvas a.screen.now a.store.now a.hits))

@@ -42,7 +42,7 @@ returns-then-store-next c =
     rw (
       fetched (goal.at.returns-then-store-next c).Else-ends,
       ← c.opcode_of.ensures,
-      c.in-Known.is,
+      c.in-Some.is,
       lt-ltb _ _ c.if-store-next.true,
     )
 
@@ -50,10 +50,9 @@ pub command-requires : goal.command-requires
 command-requires c =
     let count = opcode_of_count
     (c.word-word.result / 256)
-    c.in-Known.op
-    c.in-Known.count
+    c.in-Some.entry
     (omega arith)
-    (sym c.opcode_of.ensures ∙ c.in-Known.is) in
+    (sym c.opcode_of.ensures ∙ c.in-Some.is) in
     rw (← count) (omega arith)
 
 pub returns : goal.returns
@@ -62,7 +61,7 @@ returns c =
     rw (
       fetched (goal.at.returns c).Else-ends,
       ← c.opcode_of.ensures,
-      c.in-Known.is,
+      c.in-Some.is,
       le-ltb _ _ c.if-store-next.false,
       c.command.ensures,
     )

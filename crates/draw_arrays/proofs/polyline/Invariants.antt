@@ -13,12 +13,13 @@ use Rattle.draw_arrays.proofs.ArrayLaws.{segments_left}
 use Rattle.draw_arrays.proofs.polyline.Given as goal
 
 abbrev pub invariant-loop-k : goal.invariant-loop-k
-invariant-loop-k l = Underway l.t (polyline l.t.pen l.initial.d.position (pairs_at l.initial.store l.array l.n)) (segments_left l.t.pen l.initial.store l.array l.n l.first l.index l.k l.d.position)
-    longest_line (canvas l.initial.screen l.initial.store 0) l.screen l.store l.d l.k l.n
-    × (l.d.trap ≡ false)
-    × (4 * l.n ≤ length l.initial.store - l.array)
-    × (l.first ≤ 1)
-    × (l.index ≤ longest_line * l.k)
-
-abbrev pub decreases-loop-k : goal.decreases-loop-k
-decreases-loop-k l = l.n - l.k
+invariant-loop-k l =
+    record {
+      underway : Underway l.t (polyline l.t.pen l.initial.d.position (pairs_at l.initial.store l.array l.n))
+          (segments_left l.t.pen l.initial.store l.array l.n l.first l.index l.k l.d.position)
+          longest_line (canvas l.initial.screen l.initial.store 0) l.screen l.store l.d l.k l.n;
+      untrapped : l.d.trap ≡ false;
+      inside : 4 * l.n ≤ length l.initial.store - l.array;
+      first : l.first ≤ 1;
+      index : l.index ≤ longest_line * l.k;
+    }

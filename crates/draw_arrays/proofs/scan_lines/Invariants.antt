@@ -12,10 +12,11 @@ use Rattle.draw_arrays.proofs.ArrayLaws.{items_left, triple_at}
 use Rattle.draw_arrays.proofs.scan_lines.Given as goal
 
 abbrev pub invariant-loop-k : goal.invariant-loop-k
-invariant-loop-k l = Underway l.t (scan_lines l.t.pen l.initial.d.position (triples_at l.initial.store l.array l.n)) (items_left (scan_lines l.t.pen) (triple_at l.initial.store l.array) l.n l.k l.d.position)
-    longest_line (canvas l.initial.screen l.initial.store 0) l.screen l.store l.d l.k l.n
-    × (l.d.trap ≡ false)
-    × (6 * l.n ≤ length l.initial.store - l.array)
-
-abbrev pub decreases-loop-k : goal.decreases-loop-k
-decreases-loop-k l = l.n - l.k
+invariant-loop-k l =
+    record {
+      underway : Underway l.t (scan_lines l.t.pen l.initial.d.position (triples_at l.initial.store l.array l.n))
+          (items_left (scan_lines l.t.pen) (triple_at l.initial.store l.array) l.n l.k l.d.position)
+          longest_line (canvas l.initial.screen l.initial.store 0) l.screen l.store l.d l.k l.n;
+      untrapped : l.d.trap ≡ false;
+      inside : 6 * l.n ≤ length l.initial.store - l.array;
+    }

@@ -1,15 +1,18 @@
 -- `draw_copies::move_all` meets its contract: after k turns the first k rows are moved, in their order.
-use Rattle.std.proofs.Common.{sym, arith}
+use Rattle.std.proofs.Common.{◌≡◌, sym, arith}
 use Rattle.draw_copies.specs.Transfers.{moved_all}
 use Rattle.draw_copies.proofs.StepLaws.{reversed_if_lt}
 use Rattle.draw_copies.proofs.LoopLaws.{all_steps_bounded, moved_none, rows_few}
-use Rattle.draw_copies.proofs.LoopLaws.{stepped_none, stepped_next, stepped_all, stepped_movable, stepped_room}
+use Rattle.draw_copies.proofs.LoopLaws.{stepped_none, stepped_next, stepped_movable, stepped_room}
 use Rattle.draw_copies.proofs.move_all.Goals as goal
 
 pub returns-then-p-eq0 : goal.returns-then-p-eq0
 returns-then-p-eq0 c =
     let a = c.args in
     sym (moved_none a.t a.m c.if-p-eq0.true _)
+
+pub loop-k-init : goal.loop-k-init
+loop-k-init c = stepped_none (all_steps_bounded _ _) _
 
 pub move_row-seen-requires : goal.move_row-seen-requires
 move_row-seen-requires c =
@@ -22,12 +25,10 @@ move_row-seen-requires c =
     )
 
 pub loop-k-preserved : goal.loop-k-preserved
-loop-k-preserved c =
-    stepped_next _ c.loop-k.invariant c.loop-k-test.true (rw c.reversed_if-j.ensures at c.move_row-seen.ensures)
+loop-k-preserved c = stepped_next _ c.loop-k.invariant (rw c.reversed_if-j.ensures at c.move_row-seen.ensures)
 
 pub returns : goal.returns
 unfolding moved_all
-returns c = stepped_all _ c.loop-k.invariant (omega (arith, c.loop-k-test.false))
-
-pub loop-k-init : goal.loop-k-init
-loop-k-init c = stepped_none (all_steps_bounded _ _) _ _
+returns c =
+    let e : c.loop-k.k ≡ c.args.m.patch.high = omega arith in
+    rw e at c.loop-k.invariant.made

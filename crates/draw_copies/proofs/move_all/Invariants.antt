@@ -1,12 +1,8 @@
 -- `draw_copies::move_all` meets its contract: after k turns the first k rows are moved, in their order.
-use Rattle.std.proofs.Common.{◌-◌}
 use Rattle.canvas.specs.Canvas.{canvas}
-use Rattle.draw_copies.proofs.LoopLaws.{all_steps}
-use Rattle.draw_copies.proofs.LoopLaws.{Stepped}
+use Rattle.draw_copies.proofs.LoopLaws.{Stepped, all_steps}
 use Rattle.draw_copies.proofs.move_all.Given as goal
 
 abbrev pub invariant-loop-k : goal.invariant-loop-k
-invariant-loop-k l = Stepped (all_steps l.t l.m) l.m.patch.wide (canvas l.initial.screen l.initial.store 0) (canvas l.screen l.store l.seen) l.k l.m.patch.high
-
-abbrev pub decreases-loop-k : goal.decreases-loop-k
-decreases-loop-k l = l.m.patch.high - l.k
+invariant-loop-k l =
+    Stepped (all_steps l.t l.m) l.m.patch.wide (canvas l.initial.screen l.initial.store 0) (canvas l.screen l.store l.seen) l.k

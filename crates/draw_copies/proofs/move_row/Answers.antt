@@ -1,8 +1,7 @@
 -- `draw_copies::move_row` meets its contract: the bits of the row copied are its dots drawn.
-use Rattle.std.proofs.Common.{arith}
+use Rattle.std.proofs.Common.{arith, rules}
 use Rattle.draw_copies.proofs.RowLaws.{row_starts, bits_fit, row_moved, row_picked}
 use Rattle.draw_copies.proofs.move_row.Goals as goal
-use Rattle.draw_copies.proofs.move_row.Goals.{After-slice_known-1, After-slice_known-2-1, After-slice_known-3-1, After-slice_known-4-1}
 
 -- in pick mode
 pub returns-then-t : goal.returns-then-t
@@ -24,6 +23,5 @@ pub returns : goal.returns
 returns c =
     let a = c.args in
     row_moved a.t a.m a.j a.screen.now a.store.now c.requires.0 c.requires.1 c.requires.2
-    (rw c.row_copy_of-c.ensures at c.copy_bits.ensures)
-    (λ k. ((goal.at.returns c).After-slice_known-1.type_inv.screen k).fits) (λ k. ((goal.at.returns c).After-slice_known-2-1.type_inv.store k).fits)
-    (λ k. ((goal.at.returns c).After-slice_known-3-1.type_inv.screen k).fits) (λ k. ((goal.at.returns c).After-slice_known-4-1.type_inv.store k).fits) a.hits c.if-t.false
+    (rw c.row_copy_of-c.ensures at c.copy_bits.ensures) (λ k. search rules) (λ k. search rules) (λ k. search rules) (λ k. search rules)
+    a.hits c.if-t.false

@@ -32,7 +32,7 @@ word_of-last-requires c = (bits_small c.requires.0, columns (goal.at.word_of-las
 
 pub loop-j-init : goal.loop-j-init
 unfolding any_below
-loop-j-init c = (refl, omega arith)
+loop-j-init c = refl
 
 pub row_touches-found-requires : goal.row_touches-found-requires
 row_touches-found-requires c =
@@ -43,18 +43,17 @@ row_touches-found-requires c =
 
 pub loop-j-preserved : goal.loop-j-preserved
 loop-j-preserved c =
-    let l = c.loop-j in
-    (any_below_more _ l.j c.row_touches-found.ensures l.invariant.0, omega (arith, c.loop-j-test.true))
+    any_below_more _ c.loop-j.j c.row_touches-found.ensures c.loop-j.invariant
 
 pub returns : goal.returns
 unfolding block_touches
 returns c =
     let l = c.loop-j in
     let a = c.args in
-    let e : l.j ≡ suc a.b.dy = omega (arith, l.invariant.1, c.loop-j-test.false) in
+    let e : l.j ≡ suc a.b.dy = omega (arith, l.auto.j-end, c.loop-j-test.false) in
     let first = c.word_of-first.ensures.0 in
     let end : c.word_of-last.result + 1 ≡ suc (word_of a.s.bits (a.b.x + a.b.dx)) =
     ap (λ (n : ℕ). n + 1) c.word_of-last.ensures.0 ∙ add-one _ in
-    l.invariant.0
+    l.invariant
     ∙ (λ i. any_below (e i) (test a.active a.s a.b.y (first i) (2 * (end i - first i))))
     ∙ sym (ap (block_touches a.active a.s) (within (goal.at.returns c).Start).is)

@@ -2,7 +2,7 @@
 -- passed.
 use mathlib.Core.Path.{◌≡◌}
 use mathlib.Core.Bool.{Bool}
-use Prim.Native.Nat.{ℕ, ◌+◌, ◌-◌, ◌*◌, ◌≤◌}
+use Prim.Native.Nat.{ℕ, ◌+◌, ◌*◌}
 use Rattle.model.specs.declared.Surface.{Surface}
 use Rattle.model.specs.declared.Bitmap.{Bitmap}
 use Rattle.model.specs.Ranges.{any_below}
@@ -14,7 +14,4 @@ abbrev test : Bitmap → Surface → ℕ → ℕ → ℕ → ℕ → Bool
 test active s y first size k = touches active (s.base + 2 * ((y + k) * s.words + first)) size
 
 abbrev pub invariant-loop-j : goal.invariant-loop-j
-invariant-loop-j l = (l.found ≡ any_below l.j (test l.active l.s l.y l.first l.size)) × (l.j ≤ l.dy + 1)
-
-abbrev pub decreases-loop-j : goal.decreases-loop-j
-decreases-loop-j l = l.dy + 1 - l.j
+invariant-loop-j l = l.found ≡ any_below l.j (test l.active l.s l.y l.first l.size)

@@ -3,8 +3,8 @@ use mathlib.Core.Path.{sym, ◌∙◌}
 use Rattle.faults.proofs.CopyLaws.{source_readable}
 use Rattle.faults.proofs.copy_fault.Goals as goal
 
-pub sharing-shared-requires : goal.sharing-shared-requires
-sharing-shared-requires c = (
+pub sharing-requires : goal.sharing-requires
+sharing-requires c = (
   source_readable _ _ _ _ c.requires.0 c.requires.1
       c.surface_of-s.ensures (sym c.rule_broken.ensures ∙ c.if-rule_broken.false),
   sym c.block_bad.ensures ∙ c.if-block_bad.false,

@@ -1,20 +1,13 @@
--- `judge::judge` meets its contract: a whole list never stops at a RETURN, since no address is kept at its level.
+-- `judge::judge` meets its contract by the verdict on the whole list.
 use mathlib.Core.Path.{sym}
-use native.Mathlib.Omega.{arith}
-use Rattle.judge.proofs.JudgeLaws.{verdict_stop, stop_fair}
+use Rattle.std.proofs.lemmas.Result.{err_from_is_err_and}
+use Rattle.judge.proofs.JudgeLaws.{verdict_stop}
 use Rattle.judge.proofs.judge.Goals as goal
 
-pub judge_list-requires : goal.judge_list-requires
-judge_list-requires c = record { checkable = c.requires; most = omega arith }
+pub returns-in_err-left : goal.returns-in_err-left
+returns-in_err-left c =
+    let p = err_from_is_err_and c.from_residual.result c.from_residual.ensures.1 in
+    rw (p.1, p.2) (sym (verdict_stop _ _ _ _ _ c.in_err-left.ensures))
 
-pub overflow_sub-result : goal.overflow_sub-result
-overflow_sub-result c = stop_fair _ _ _ _ _ _ c.in-Ended.is c.judge_list.ensures
-
-pub returns-in-Ended : goal.returns-in-Ended
-returns-in-Ended c = sym (verdict_stop _ _ _ _ _ _ c.in-Ended.is c.judge_list.ensures)
-
-pub returns-in-Faulty : goal.returns-in-Faulty
-returns-in-Faulty c = sym (verdict_stop _ _ _ _ _ _ c.in-Faulty.is c.judge_list.ensures)
-
-pub returns-in-Returned : goal.returns-in-Returned
-returns-in-Returned c = absurd (omega (arith, (stop_fair _ _ _ _ _ _ c.in-Returned.is c.judge_list.ensures).0))
+pub returns : goal.returns
+returns c = sym (verdict_stop _ _ _ _ _ (rw c.in-Ended.is at c.in_ok-left.ensures))

@@ -119,11 +119,11 @@ loop-rest-preserved c =
       bytes = λ i. ((goal.at.loop-rest-preserved c).After-slice_known-in-loop-rest-2-1.type_inv.store i).fits;
       wide = c.advance-s.auto.screen ∙ l.invariant.wide;
       tall = c.advance-s.auto.store ∙ l.invariant.tall;
-      spent = omega (arith, l.invariant.spent, c.larger-rest.ensures, e.within);
+      spent = omega (arith, l.invariant.spent, c.max-rest.ensures, e.within);
       few = omega (arith, l.invariant.few, e.few);
       same =
           ap (λ (n : ℕ). onward f.geometry f.row (l.rest - n)
-          (finish (l.count + s.count) (l.paint + s.paint) s.pane c.advance-s.new.screen c.advance-s.new.store)) c.larger-rest.ensures
+          (finish (l.count + s.count) (l.paint + s.paint) s.pane c.advance-s.new.screen c.advance-s.new.store)) c.max-rest.ensures
           ∙ onward_more f.geometry f.row (l.rest - max 1 s.count) l.rest l.count l.paint s.count s.paint l.q s.pane
           l.screen l.store _ _ e.leaves
           ∙ l.invariant.same;

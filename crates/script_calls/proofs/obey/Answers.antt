@@ -1,19 +1,11 @@
--- The bytes in use are lent to the call and come back; a line of any other kind prints ?.
-use mathlib.Core.Path.{◌∙◌}
-use borrow.Enum.Refused.{opened}
+-- The bytes in use are lent to the call and come back.
+use Rattle.std.proofs.Common.{◌∙◌}
 use Rattle.model.specs.Calls.{exec, on}
 use Rattle.script_lines.specs.Lines.{call_said}
 use Rattle.script_session.specs.SessionState.{after_line}
-use Rattle.script_session.proofs.SessionLaws.{reaction_of_step, call_made_lem}
-use Rattle.script_calls.proofs.CallLaws.{after_line_other}
+use Rattle.script_session.proofs.SessionLaws.{call_made_lem}
 use Rattle.script_calls.proofs.obey.Goals as goal
 
--- no call
-pub returns-in_default : goal.returns-in_default
-returns-in_default c =
-    reaction_of_step c.malformed.ensures _ _ ∙ after_line_other c.args.said _ _ (opened c.in_default.in_default-own.keys2) c.requires
-
--- a call
 pub returns : goal.returns
 unfolding after_line
 returns c =

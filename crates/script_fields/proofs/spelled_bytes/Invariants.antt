@@ -1,14 +1,16 @@
--- The invariant: i of n bytes are written, and those that the rest of the field spells, after them, are those that all of it spells.
-use mathlib.Core.Path.{◌≡◌}
-use Prim.Native.Nat.{◌*◌, ◌-◌, ◌≤◌}
-use lib.ListN.{length, take, drop}
-use Rattle.script_fields.specs.Fields.{spelled_bytes, most_bytes}
+-- The invariant: the bytes before place i are written, and those that the rest of the field spells, after them, are those that all of it spells.
+use Rattle.std.proofs.Common.{◌≡◌, ◌+◌, ◌*◌, length, take}
+use Rattle.std.specs.Slice.Iter.{chunks_exact_rest, chunks_exact_size}
+use Rattle.std.specs.Iterator.Adapters.{enumerate_source, enumerate_count}
+use Rattle.script_fields.specs.Fields.{spelled_bytes}
 use Rattle.script_fields.proofs.ReadingLaws.{prefixed}
 use Rattle.script_fields.proofs.spelled_bytes.Given as goal
 
 abbrev pub invariant-loop-i : goal.invariant-loop-i
-invariant-loop-i l = (l.i ≤ l.n) × (2 * l.n ≡ length l.field) × (l.n ≤ most_bytes) × (length l.buffer ≡ length l.initial.buffer)
-    × (prefixed (take l.i l.buffer) (spelled_bytes (drop (2 * l.i) l.field)) ≡ spelled_bytes l.field)
-
-abbrev pub decreases-loop-i : goal.decreases-loop-i
-decreases-loop-i l = l.n - l.i
+invariant-loop-i l =
+    let i = enumerate_count l.i-iterator in
+    let rest = chunks_exact_rest (enumerate_source l.i-iterator) in record {
+      by_two : chunks_exact_size (enumerate_source l.i-iterator) ≡ 2;
+      left : 2 * i + length rest ≡ length l.field;
+      read : prefixed (take i l.buffer) (spelled_bytes rest) ≡ spelled_bytes l.field;
+    }

@@ -1,5 +1,5 @@
 -- A coordinate that is not negative is its pattern; of another the numeral stands after a minus.
-use native.Mathlib.Omega.{arith}
+use Rattle.std.proofs.Common.{arith}
 use Rattle.script_numerals.proofs.WroteLaws.{Wrote-value, Wrote-then}
 use Rattle.script_numerals.proofs.NumeralLaws.{coordinate_minus}
 use Rattle.script_numerals.proofs.coordinate.Goals as goal
@@ -7,6 +7,5 @@ use Rattle.script_numerals.proofs.coordinate.Goals as goal
 -- negative
 pub returns : goal.returns
 returns c =
-    rw
-    (coordinate_minus c.args.pattern c.if-n-lt32768.false (omega arith))
-    (Wrote-value c.push-comma.ensures (Wrote-then c.push-minus.ensures c.decimal.ensures))
+    let number = rw c.from-n.ensures at c.decimal.ensures in
+    rw (coordinate_minus c.args.pattern (omega arith) (omega arith)) (Wrote-value c.push-comma.ensures (Wrote-then c.push-minus.ensures number))

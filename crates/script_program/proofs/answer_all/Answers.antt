@@ -1,17 +1,15 @@
 -- What is read tells what the whole script prints: it is all of it, or already longer than a script may be.
-use Rattle.std.proofs.Common.{rules, arith, ◌≡◌, ℕ, ◌<◌, List, [], ◌++◌, None, Some, Option, Result, Ok, Err, Bool, true, cond, inl, inr, length, IfSome, OnOk, sym, ap, ◌∙◌, subst, append-nil, length-append}
+use Rattle.std.proofs.Common.{rules, arith, ◌≡◌, ℕ, ◌<◌, List, [], ◌++◌, None, Some, Option, Result, Ok, Err, length, IfSome, OnOk}
+use Rattle.std.proofs.Common.{inl, inr, sym, ap, ◌∙◌, subst, append-nil, length-append}
 use Rattle.std.proofs.lemmas.Bool.{cases_lt, lt-ltb}
 use Rattle.std.specs.Io.KnownBytes.{Appends, Consumes, IsAtEnd}
 use Rattle.script_lines.specs.declared.Language.{Language}
 use Rattle.script.specs.Scripts.{answered}
 use Rattle.script_program.proofs.answer_all.Goals as goal
 
-cond_both : (b c : Bool) (m x y : List ℕ) → b ≡ true → c ≡ true → cond b m x ≡ cond c m y
-cond_both b c m x y e f = ap (λ t. cond t m x) e ∙ sym (ap (λ t. cond t m y) f)
-
 both_long : (language : Language) (xs ys : List ℕ) → 8192 < length xs → 8192 < length ys → answered language xs ≡ answered language ys
 unfolding answered
-both_long language xs ys p q = cond_both _ _ _ _ _ (lt-ltb _ _ p) (lt-ltb _ _ q)
+both_long language xs ys p q = rw (lt-ltb _ _ p, lt-ltb _ _ q)
 
 front_tells : (language : Language) (xs ys : List ℕ) → (length xs < 8193 → ys ≡ []) → answered language (xs ++ ys) ≡ answered language xs
 front_tells language xs ys end =

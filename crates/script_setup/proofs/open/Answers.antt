@@ -1,18 +1,11 @@
--- Misplaced without `s`, or set-up on the bytes in use.
-use mathlib.Core.Path.{◌∙◌}
-use lib.ListN.{take-append-drop}
+-- Set-up on the bytes in use.
+use Rattle.std.proofs.Common.{◌∙◌, take-append-drop}
 use Rattle.model.specs.Calls.{set_up}
 use Rattle.script_lines.specs.Lines.{letter_open}
 use Rattle.script_session.specs.SessionState.{after_set_up, after_line}
-use Rattle.script_session.proofs.SessionLaws.{reaction_of_step, call_made_lem}
+use Rattle.script_session.proofs.SessionLaws.{call_made_lem}
 use Rattle.script_setup.proofs.open.Goals as goal
 
--- misplaced
-pub returns-then-not-session : goal.returns-then-not-session
-unfolding after_line
-returns-then-not-session c = reaction_of_step c.malformed.ensures _ _ ∙ rw (c.requires, c.if-not-session.true)
-
--- set-up
 pub returns : goal.returns
 unfolding after_line
 returns c =

@@ -4,16 +4,14 @@ use Rattle.model.specs.Calls.{switch, on_pane}
 use Rattle.call_common.proofs.CallLaws.{exec_refused, exec_refused_own, exec_record}
 use Rattle.call_record.proofs.switch.switch.Goals as goal
 
-pub returns-then-admission-ne0 : goal.returns-then-admission-ne0
-returns-then-admission-ne0 c = exec_refused _ _ _ c.admit-admission.ensures c.refused.ensures c.if-admission-ne0.true
+pub returns-in-Err : goal.returns-in-Err
+returns-in-Err c = exec_refused _ _ _ c.in-Err.ensures c.refused.ensures
 
-pub returns-then-own-ne0 : goal.returns-then-own-ne0
-returns-then-own-ne0 c =
-    exec_refused_own _ _ (switch _) c.admit-admission.ensures c.if-admission-ne0.false (c.switch_refusal-own.ensures _ _)
-    c.refused-then-own-ne0.ensures c.if-own-ne0.true
+pub returns-in-Err-check_switch : goal.returns-in-Err-check_switch
+returns-in-Err-check_switch c =
+    exec_refused_own _ _ (switch _) c.in-Ok.ensures (c.in-Err-check_switch.ensures _ _) c.refused-in-Err-check_switch.ensures
 
 pub returns : goal.returns
 unfolding on_pane
 returns c =
-    exec_record _ _ (switch _) c.admit-admission.ensures c.if-admission-ne0.false (c.switch_refusal-own.ensures _ _)
-    c.if-own-ne0.false _ refl c.with_record.ensures c.switched-pane.ensures
+    exec_record _ _ (switch _) c.in-Ok.ensures (c.in_default.ensures _ _) _ refl c.with_record.ensures c.switched-pane.ensures

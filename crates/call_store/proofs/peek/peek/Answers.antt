@@ -5,22 +5,18 @@ use Rattle.call_common.proofs.CallLaws.{exec_refused, exec_refused_own, length_s
 use Rattle.call_store.proofs.StoreLaws.{peek_below}
 use Rattle.call_store.proofs.peek.peek.Goals as goal
 
-pub returns-then-admission-ne0 : goal.returns-then-admission-ne0
-returns-then-admission-ne0 c = exec_refused _ _ _ c.admit-admission.ensures c.refused.ensures c.if-admission-ne0.true
+pub returns-in-Err : goal.returns-in-Err
+returns-in-Err c = exec_refused _ _ _ c.in-Err.ensures c.refused.ensures
 
-pub returns-then-own-ne0 : goal.returns-then-own-ne0
-returns-then-own-ne0 c =
-    exec_refused_own _ _ _ c.admit-admission.ensures c.if-admission-ne0.false (c.peek_refusal-own.ensures _)
-    c.refused-then-own-ne0.ensures c.if-own-ne0.true
+pub returns-in-Err-check_peek : goal.returns-in-Err-check_peek
+returns-in-Err-check_peek c =
+    exec_refused_own _ _ _ c.in-Ok.ensures (c.in-Err-check_peek.ensures _) c.refused-in-Err-check_peek.ensures
 
 pub byte_at-value-requires : goal.byte_at-value-requires
 unfolding part
-byte_at-value-requires c =
-    rw (length_store_part _ (c.admit-admission.ensures.granted c.if-admission-ne0.false))
-    (peek_below _ _ c.peek_refusal-own.ensures c.if-own-ne0.false)
+byte_at-value-requires c = rw (length_store_part _ c.in-Ok.ensures) (peek_below _ _ c.in_default.ensures)
 
 pub returns : goal.returns
 unfolding part on_pane
 returns c =
-    exec_value _ _ _ c.admit-admission.ensures c.if-admission-ne0.false (c.peek_refusal-own.ensures _) c.if-own-ne0.false refl
-    c.byte_at-value.ensures
+    rw c.replied.ensures (exec_value _ _ _ c.in-Ok.ensures (c.in_default.ensures _) refl c.byte_at-value.ensures)

@@ -6,25 +6,21 @@ use Rattle.call_common.proofs.CallLaws.{exec_refused, exec_refused_own, store_ro
 use Rattle.call_store.proofs.StoreLaws.{put_room}
 use Rattle.call_store.proofs.put.put.Goals as goal
 
-pub returns-then-admission-ne0 : goal.returns-then-admission-ne0
-returns-then-admission-ne0 c = exec_refused _ _ _ c.admit-admission.ensures c.refused.ensures c.if-admission-ne0.true
+pub returns-in-Err : goal.returns-in-Err
+returns-in-Err c = exec_refused _ _ _ c.in-Err.ensures c.refused.ensures
 
-pub returns-then-own-ne0 : goal.returns-then-own-ne0
-returns-then-own-ne0 c =
-    exec_refused_own _ _ _ c.admit-admission.ensures c.if-admission-ne0.false (c.put_refusal-own.ensures _)
-    c.refused-then-own-ne0.ensures c.if-own-ne0.true
+pub returns-in-Err-check_put : goal.returns-in-Err-check_put
+returns-in-Err-check_put c =
+    exec_refused_own _ _ _ c.in-Ok.ensures (c.in-Err-check_put.ensures _) c.refused-in-Err-check_put.ensures
 
 pub write-requires : goal.write-requires
 unfolding part
-write-requires c =
-    rw (length_store_part _ (c.admit-admission.ensures.granted c.if-admission-ne0.false))
-    (put_room _ _ _ c.put_refusal-own.ensures c.if-own-ne0.false)
+write-requires c = rw (length_store_part _ c.in-Ok.ensures) (put_room _ _ _ c.in_default.ensures)
 
 pub returns : goal.returns
 unfolding part in_part on_pane
 returns c =
-    exec_store _ _ _ c.admit-admission.ensures c.if-admission-ne0.false (c.put_refusal-own.ensures _) c.if-own-ne0.false
-    reply.Done refl c.write.ensures
+    rw c.replied.ensures (exec_store _ _ _ c.in-Ok.ensures (c.in_default.ensures _) reply.Done refl c.write.ensures)
 
 pub slice_bounds-write-end : goal.slice_bounds-write-end
-slice_bounds-write-end c = store_room (c.admit-admission.ensures.granted c.if-admission-ne0.false)
+slice_bounds-write-end c = store_room c.in-Ok.ensures

@@ -1,25 +1,11 @@
 -- `draw_text::text::character` meets its contract: the cells at the position, the position moved, the trap flag set by T.
-use Rattle.std.proofs.Common.{ℕ, ◌+◌, ◌*◌, ◌<◌, ◌||◌, List, length, ap, ◌∙◌, arith}
+use Rattle.std.proofs.Common.{ℕ, ◌||◌, List, ap, ◌∙◌}
 use Rattle.model.specs.Words.{bit}
 use Rattle.model.specs.Dots.{Dot}
-use Rattle.model.specs.Glyphs.{height_of, passed}
+use Rattle.model.specs.Glyphs.{passed}
 use Rattle.canvas.specs.Canvas.{canvas, painted_all}
-use Rattle.draw_text.proofs.CellLaws.{cells_glyph_dots, grid_painted, grid_fits}
+use Rattle.draw_text.proofs.CellLaws.{cells_glyph_dots, grid_painted}
 use Rattle.draw_text.proofs.text.character.Goals as goal
-
-pub word-head-requires : goal.word-head-requires
-word-head-requires c = c.requires.0.reach.inside (c.args.at + 1) (omega arith) (omega arith)
-
-pub grid_of-g-requires : goal.grid_of-g-requires
-grid_of-g-requires c =
-    let p = c.requires.0 in
-    let l : c.args.at + 1 + 2 * height_of c.word-head.result < length c.args.store.now
-    = p.reach.inside _ (omega arith) (omega (arith, c.word-head.ensures)) in
-    omega (arith, l)
-
-pub draw_grid-hits-requires : goal.draw_grid-hits-requires
-draw_grid-hits-requires c =
-    (c.requires.0.target, grid_fits c.grid_of-g.ensures, c.requires.0.few)
 
 pub returns : goal.returns
 returns c =

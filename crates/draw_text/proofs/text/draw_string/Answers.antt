@@ -20,5 +20,4 @@ loop-k-preserved c =
     writing_next _ _ _ _ _ _ c.loop-k.invariant c.requires c.loop-k-test.true _ c.descriptor_of-at.ensures.0 c.character-d.ensures
 
 pub returns : goal.returns
-returns c =
-    writing_last _ _ _ _ _ _ c.loop-k.invariant (omega (arith, c.loop-k.invariant.turn, c.loop-k-test.false))
+returns c = writing_last _ _ _ _ _ _ c.loop-k.invariant (omega arith)

@@ -11,7 +11,7 @@ use Rattle.fault_text.proofs.check.descriptors_bad.Goals as goal
 
 pub loop-k-init : goal.loop-k-init
 unfolding descriptors_bad any_below
-loop-k-init c = (omega arith, refl)
+loop-k-init c = refl
 
 pub descriptor_of-at-requires : goal.descriptor_of-at-requires
 descriptor_of-at-requires c =
@@ -21,9 +21,6 @@ descriptor_of-at-requires c =
 pub loop-k-preserved : goal.loop-k-preserved
 unfolding descriptors_bad
 loop-k-preserved c =
-    let a = c.args in (
-      omega arith,
-      any_below_more (λ k. descriptor_bad a.r a.active a.store.now (descriptor a.font a.store.now a.string k)) c.loop-k.k
-          (c.descriptor_bad-bad.ensures ∙ ap (descriptor_bad a.r a.active a.store.now) c.descriptor_of-at.ensures.0)
-          c.loop-k.invariant.1,
-    )
+    let a = c.args in
+    any_below_more (λ k. descriptor_bad a.r a.active a.store.now (descriptor a.font a.store.now a.string k)) c.loop-k.k
+    (c.descriptor_bad-bad.ensures ∙ ap (descriptor_bad a.r a.active a.store.now) c.descriptor_of-at.ensures.0) c.loop-k.invariant

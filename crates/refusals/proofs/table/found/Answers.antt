@@ -13,13 +13,11 @@ loop-j-init c = search rules
 pub loop-j-preserved : goal.loop-j-preserved
 loop-j-preserved c =
     let a = c.args in
-    let f = c.loop-j.invariant.1 in
-    let s = c.shared-s.ensures in (
-      search rules,
-      record {
-        rectangle = some_row_more _ _ _ _ (rectangle_bad a.g) c.rectangle_bad-rectangle.ensures f.rectangle;
-        store = some_row_more _ _ _ _ (store_bad a.stores) c.store_bad-store.ensures f.store;
-        pixel = some_pair_more _ _ _ _ share_pixel s.0 f.pixel;
-        byte = some_pair_more _ _ _ _ share_byte s.1 f.byte;
-      },
-    )
+    let f = c.loop-j.invariant in
+    let s = c.shared-s.ensures in
+    record {
+      rectangle = some_row_more _ _ _ _ (rectangle_bad a.g) c.rectangle_bad-rectangle.ensures f.rectangle;
+      store = some_row_more _ _ _ _ (store_bad a.stores) c.store_bad-store.ensures f.store;
+      pixel = some_pair_more _ _ _ _ share_pixel s.0 f.pixel;
+      byte = some_pair_more _ _ _ _ share_byte s.1 f.byte;
+    }

@@ -13,8 +13,7 @@ loop-i-init c = search rules
 pub loop-i-preserved : goal.loop-i-preserved
 loop-i-preserved c =
     let r = c.args.r in (
-      search rules,
-      some_row_more _ _ _ _ (λ s. share_pixel s r) c.share_pixel-pixel.ensures c.loop-i.invariant.1,
+      some_row_more _ _ _ _ (λ s. share_pixel s r) c.share_pixel-pixel.ensures c.loop-i.invariant.0,
       some_row_more _ _ _ _ (λ s. share_byte s r)
-          c.share_byte-byte.ensures c.loop-i.invariant.2,
+          c.share_byte-byte.ensures c.loop-i.invariant.1,
     )

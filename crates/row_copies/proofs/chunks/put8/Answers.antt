@@ -5,8 +5,6 @@ use Rattle.row_copies.proofs.chunks.put8.Goals as goal
 
 pub loop-j-preserved : goal.loop-j-preserved
 loop-j-preserved c =
-    let a = c.args in (
-      put8_next a.at a.t c.loop-j.j a.buf.now c.loop-j.buf c.loop-j.invariant.0 (omega (arith, c.loop-j.invariant.0.length))
-          c.half_of.ensures c.half_of-in-loop-j.ensures,
-      omega arith,
-    )
+    let a = c.args in
+    put8_next a.at a.t c.loop-j.j a.buf.now c.loop-j.buf c.loop-j.invariant (omega (arith, c.loop-j.invariant.length))
+    c.half_of.ensures c.half_of-in-loop-j.ensures

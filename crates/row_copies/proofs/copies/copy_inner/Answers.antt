@@ -1,9 +1,16 @@
--- `copy_inner` meets its contract: bytes carried, or words copied.
+-- `copy_inner` meets its contract: words copied, or bytes carried from the source's buffer.
 use mathlib.Core.Path.{sym, ◌∙◌}
 use Rattle.row_copies.proofs.CarryLaws.{carried_copied}
 use Rattle.row_copies.proofs.copies.copy_inner.Goals as goal
 
-pub returns-then-in_phase : goal.returns-then-in_phase
-returns-then-in_phase c =
+pub returns-in-Some : goal.returns-in-Some
+returns-in-Some c =
     let a = c.args in
-    carried_copied a.operator a.c a.first a.last c.requires.1 (sym c.in_phase.ensures ∙ c.if-in_phase.true) c.requires.2 c.carry.ensures
+    rw c.in-Some.is (carried_copied a.operator a.c a.first a.last c.requires.1 (sym c.in_phase.ensures ∙ c.if-not-in_phase.false)
+    c.requires.3 c.carry.ensures)
+
+pub returns-in-None : goal.returns-in-None
+returns-in-None c =
+    let a = c.args in
+    rw c.in-None.is (carried_copied a.operator a.c a.first a.last c.requires.1 (sym c.in_phase.ensures ∙ c.if-not-in_phase.false)
+    c.requires.3 c.carry_within.ensures)

@@ -1,6 +1,7 @@
 -- `strips::patterns::spread4` meets its contract: antt computes it at each eight bits.
 use mathlib.Core.Path.{refl}
 use Prim.Native.Nat.{ℕ, ◌*◌, ◌/◌, ◌%◌, ◌<◌}
+use native.Mathlib.Omega.{arith}
 use lib.Bits.{bit_and, bit_or}
 use Rattle.model.specs.Words.{bit, num}
 use Rattle.strips.specs.Strips.{Spread}
@@ -25,4 +26,4 @@ unfolding bit num
 is = spread_is 4 (λ x. code x) refl
 
 pub returns : goal.returns
-returns c = is c.args.x c.requires
+returns c = is c.args.pattern (omega arith)

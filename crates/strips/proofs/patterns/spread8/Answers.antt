@@ -1,6 +1,7 @@
 -- `strips::patterns::spread8` meets its contract: antt computes it at each eight bits.
 use mathlib.Core.Path.{refl}
 use Prim.Native.Nat.{ℕ, ◌+◌, ◌*◌, ◌/◌, ◌<◌}
+use native.Mathlib.Omega.{arith}
 use lib.Bits.{bit_and}
 use Rattle.model.specs.Words.{bit, num}
 use Rattle.strips.specs.Strips.{Spread}
@@ -19,4 +20,4 @@ unfolding bit num
 is = spread_is 8 (λ x. code x) refl
 
 pub returns : goal.returns
-returns c = is c.args.x c.requires
+returns c = is c.args.pattern (omega arith)

@@ -18,8 +18,8 @@ returns-then-from-end c =
     bare_stretched a.strips.now _ a.phase a.row a.from a.end c.requires.0 c.if-strips-eq1.true
     c.strip_at-at.ensures c.sixteen-flip.ensures c.cover.ensures
 
-pub returns : goal.returns
-returns c =
+pub returns-else-strips-eq1 : goal.returns-else-strips-eq1
+returns-else-strips-eq1 c =
     let a = c.args in
     words_stretched a.strips.now _ _ a.phase a.row a.from a.end c.requires.0
-    c.strip_at-at.ensures c.sixteen-2.ensures c.sixteen-flip.ensures c.fill.ensures
+    c.strip_at-at.ensures c.sixteen-else-strips-eq1.ensures c.sixteen-flip.ensures c.fill.ensures

@@ -1,9 +1,8 @@
 -- `traces::edges::joint` meets its contract.
-use Rattle.std.proofs.Common.{max, ap, ◌∙◌}
 use Rattle.traces.proofs.EdgeLaws.{joint_is}
 use Rattle.traces.proofs.edges.joint.Goals as goal
 
 pub returns : goal.returns
 returns c =
-    joint_is c.args.axes c.args.first c.args.major c.args.minor c.among.result c.reach-from.ensures c.reach-end.ensures
-    (c.larger-start.ensures ∙ ap (max c.args.first) c.larger.ensures) c.requires.1 c.among.ensures
+    joint_is c.args.axes c.args.first c.args.major c.args.minor c.among.result c.reach-from.ensures c.reach-end.ensures (cc)
+    c.requires.1 c.among.ensures

@@ -6,8 +6,7 @@ use Rattle.traces.specs.declared.walks.Spot.{Spot}
 use Rattle.traces.specs.declared.walks.Steps.{Steps}
 use Rattle.traces.specs.Walks.{Walkable, spot_at, solid, pattern_digit, walked, traced}
 use Rattle.traces.proofs.PatternLaws.{digits_of, digits_solid}
-use Rattle.traces.proofs.WalkLaws.{row_few}
-use Rattle.traces.proofs.TraceLaws.{early, locatable, trace_walkable, walked_traced}
+use Rattle.traces.proofs.TraceLaws.{locatable, trace_walkable, walked_traced}
 use Rattle.traces.proofs.walks.walk.Goals as goal
 use Rattle.traces.proofs.walks.walk.Goals.{After-rotate_left-pattern}
 
@@ -43,42 +42,27 @@ module _ (r : After-rotate_left-pattern) where
       → walked a.stamps.now a.t.area.surface.base from steps on (a.e.second - a.e.first) a.buffer.now
       ≡ traced a.t a.s a.buffer.now
   drawn on h =
-      let s = r.before.before.before.before.before.before.before.before.before.before.before in
-      let a = s.args in
+      let a = r.args in
       ap₂ (λ (f : Spot) (g : Steps). walked a.stamps.now a.t.area.surface.base f g on (a.e.second - a.e.first) a.buffer.now)
       r.spot_of-from.ensures r.steps_of-g.ensures
-      ∙ walked_traced s.requires.0 s.requires.1 small bytes on (λ k l. h k
+      ∙ walked_traced r.requires.0 r.requires.1 small bytes on (λ k l. h k
       ∙ digits_of a.t.pen.pattern (a.e.first - a.s.first) a.s.index r.rotate_left-pattern.result r.rotate_left-pattern.ensures k)
-
-pub steps_of-g-requires : goal.steps_of-g-requires
-steps_of-g-requires c =
-    let t = c.requires.0 in
-    let l = locatable t c.args.e.first (omega arith) t.some in
-    (omega (arith, row_few c.args.t.area.surface l.right l.near _ l.located.row), t.numbers.sloped)
 
 pub spot_of-from-requires : goal.spot_of-from-requires
 spot_of-from-requires c =
     locatable c.requires.0 c.args.e.first (omega arith) c.requires.0.some
 
-pub overflow_sub-e : goal.overflow_sub-e
-overflow_sub-e c = early c.requires.0
+pub walk_by-requires : goal.walk_by-requires
+walk_by-requires c = walkable (goal.at.walk_by-requires c).After-rotate_left-pattern
 
-pub overflow_add-e : goal.overflow_add-e
-overflow_add-e c =
-    let t = c.requires.0 in
-    record { fits = omega (arith, t.numbers.index, t.some, t.edges.last, t.numbers.sloped.small) }
-
-pub walk_solid-requires : goal.walk_solid-requires
-walk_solid-requires c = walkable (goal.at.walk_solid-requires c).After-rotate_left-pattern
-
-pub walk_dashed-requires : goal.walk_dashed-requires
-walk_dashed-requires c = walkable (goal.at.walk_dashed-requires c).After-rotate_left-pattern
+pub walk_by-requires-else-pattern-crowded : goal.walk_by-requires-else-pattern-crowded
+walk_by-requires-else-pattern-crowded c = walkable (goal.at.walk_by-requires-else-pattern-crowded c).After-rotate_left-pattern
 
 pub returns-then-pattern-crowded : goal.returns-then-pattern-crowded
 returns-then-pattern-crowded c =
-    let full = eqb-true c.rotate_left-pattern.result 65535 (both_true _ _ c.if-pattern-crowded.true).0 in
-    c.walk_solid.ensures ∙ drawn (goal.at.returns-then-pattern-crowded c).After-rotate_left-pattern solid (digits_solid _ full)
+    c.walk_by.ensures ∙ drawn (goal.at.returns-then-pattern-crowded c).After-rotate_left-pattern solid (digits_solid _ (eqb-true _ 65535 (both_true _ _ c.if-pattern-crowded.true).0))
 
 pub returns-else-pattern-crowded : goal.returns-else-pattern-crowded
 returns-else-pattern-crowded c =
-    c.walk_dashed.ensures ∙ drawn (goal.at.returns-else-pattern-crowded c).After-rotate_left-pattern (pattern_digit c.rotate_left-pattern.result) (λ k. refl)
+    c.walk_by-else-pattern-crowded.ensures
+    ∙ drawn (goal.at.returns-else-pattern-crowded c).After-rotate_left-pattern (pattern_digit c.rotate_left-pattern.result) (λ k. refl)

@@ -1,0 +1,10 @@
+-- `draw_outlines::upright_trace` meets its contract: the trace from the side's first pixel has the side's pixels.
+use Rattle.draw_outlines.proofs.SideLaws.{upright_side}
+use Rattle.draw_outlines.proofs.upright_trace.Goals as goal
+
+pub returns : goal.returns
+returns c =
+    let x = c.biased-x.ensures in
+    let y = c.biased-y.ensures in
+    let e = c.outline_offset-start.ensures.0 in
+    upright_side c.args.o c.args.s x.1 y.1 (rw e at x.0) (rw e at y.0) c.requires.0 c.requires.2 c.requires.1

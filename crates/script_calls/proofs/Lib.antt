@@ -1,2 +1,0 @@
--- Laws of the lines after an accepted `o`.
-pub mod CallLaws

@@ -1,2 +1,0 @@
--- Laws of what a line says.
-pub mod LineLaws

@@ -1,2 +1,0 @@
--- Laws of sizes, which the proofs of the lines cite.
-pub mod SizeLaws
