@@ -1,5 +1,5 @@
 // The commands that a batch has, by their first words, and where each leaves the pointer and the position.
-ghost use Rattle.std.specs.Prelude.{◌≡◌, ◌+◌, ◌≤◌, ◌<◌, ◌^◌, length};
+ghost use Rattle.std.specs.Prelude.{◌≡◌, ◌+◌, ◌≤◌, ◌<◌, ◌^◌, length, IfSome};
 ghost use Rattle.batches.specs.Heads.{HeadAt, OpcodeFor, moved_to, moved_by};
 
 use decoder::parameter;
@@ -72,17 +72,16 @@ fn moved_to(pointer: u32, position: Point) -> Move
     Move { pointer, position }
 }
 
-// Where a command leaves the pointer and the position, by its head.
-pub fn moved_by(pointer: u32, from: Point, head: Head) -> Move
-    requires { pointer + 6 < 2 ^ 32 }
+// What ABS_MOV, REL_MOV, LINK and NOP leave, by the head of a command; no other only moves.
+pub fn moved_by(pointer: u32, from: Point, head: Option<Head>) -> Option<Move>
+    requires { IfSome head (λ _. pointer + 6 < 2 ^ 32) }
     ensures { result ≡ moved_by pointer from head }
 {
-    match head {
-        Head::Line { dx, dy } => moved_to(pointer + 6, coordinates::move_by(from, dx, dy)),
-        Head::Circle { radius: _ } => moved_to(pointer + 4, from),
-        Head::AbsMov { x, y } => moved_to(pointer + 6, Point { x, y }),
-        Head::RelMov { dx, dy } => moved_to(pointer + 6, coordinates::move_by(from, dx, dy)),
-        Head::Link { address } => moved_to(address, from),
-        Head::Nop => moved_to(pointer + 2, from),
+    match head? {
+        Head::Line { .. } | Head::Circle { .. } => None,
+        Head::AbsMov { x, y } => Some(moved_to(pointer + 6, Point { x, y })),
+        Head::RelMov { dx, dy } => Some(moved_to(pointer + 6, coordinates::move_by(from, dx, dy))),
+        Head::Link { address } => Some(moved_to(address, from)),
+        Head::Nop => Some(moved_to(pointer + 2, from)),
     }
 }

@@ -49,29 +49,32 @@ fn batch_on(
     let mut position = from;
     let mut paint: u64 = 0;
     for count in 0..budget {
-        let Some(head) = head_at(store, pointer) else {
-            return Batch {
-                pointer,
-                position,
-                count,
-                paint,
-            };
-        };
-        let hits = match head {
-            Head::Line { dx, dy } => {
+        let head = head_at(store, pointer);
+        match head {
+            Some(Head::Line { dx, dy }) => {
                 let line = trace_of(position, whole_line(dx, dy));
-                draw_trace(screen, store, stamps, t, line, 0)
+                paint += draw_trace(screen, store, stamps, t, line, 0) as u64;
+                position = coordinates::move_by(position, dx, dy);
+                pointer += 6;
             }
-            Head::Circle { radius } => {
+            Some(Head::Circle { radius }) => {
                 let r = coordinates::magnitude(radius);
-                draw_circle(screen, store, stamps, t, position, r)
+                paint += draw_circle(screen, store, stamps, t, position, r) as u64;
+                pointer += 4;
             }
-            _ => 0,
-        };
-        let next = moved_by(pointer, position, head);
-        pointer = next.pointer;
-        position = next.position;
-        paint += hits as u64;
+            _ => {
+                let Some(next) = moved_by(pointer, position, head) else {
+                    return Batch {
+                        pointer,
+                        position,
+                        count,
+                        paint,
+                    };
+                };
+                pointer = next.pointer;
+                position = next.position;
+            }
+        }
     }
     Batch {
         pointer,

@@ -120,22 +120,20 @@ fn one_line(
         ≡ after_line (line_of language line.now)
         (session_state session screen.old stores.old) }
 {
-    let Some(said) = script_lines::parse(language, line, scratch) else {
-        return script_session::malformed(session);
-    };
+    let said = script_lines::parse(language, line, scratch);
     obey(said, screen, stores, scratch, session)
 }
 
 // Obeys what a line says. Before an accepted `o` only `s`, `p` and `o` are taken, after it only the calls.
 fn obey(
-    said: script_lines::Line,
+    said: Option<script_lines::Line>,
     screen: &mut [u8],
     stores: &mut [u8],
     scratch: &[u8],
     session: Session,
 ) -> LineStep
     ensures { reaction_of result screen.new stores.new
-        ≡ after_line (line_said (Some said) scratch.now)
+        ≡ after_line (line_said said scratch.now)
         (session_state session screen.old stores.old) }
 {
     if session.opened {

@@ -45,7 +45,7 @@ fn make_call(
 // A line after an accepted `o`: a call is lent the bytes in use, and any other line prints ?.
 #[tactic(auto, unfolding(script_session::specs::SessionState::after_line))]
 pub fn obey(
-    said: Line,
+    said: Option<Line>,
     screen: &mut [u8],
     stores: &mut [u8],
     buffer: &[u8],
@@ -53,10 +53,10 @@ pub fn obey(
 ) -> LineStep
     requires { session.opened ≡ true }
     ensures { reaction_of result screen.new stores.new
-        ≡ after_line (line_said (Some said) buffer.now)
+        ≡ after_line (line_said said buffer.now)
         (session_state session screen.old stores.old) }
 {
-    let Line::Ask(letter, pane, call) = said else {
+    let Some(Line::Ask(letter, pane, call)) = said else {
         return malformed(session);
     };
     let n = count_within(session.screen as usize, screen);

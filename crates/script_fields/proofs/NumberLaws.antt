@@ -1,8 +1,8 @@
 -- Laws of a number read digit by digit.
 use Rattle.std.proofs.Common.{◌≡◌, ℕ, ◌+◌, ◌*◌, ◌<◌, ◌≤◌, List, [], ◌∷◌, length, get_or, drop}
-use Rattle.std.proofs.Common.{Option, None, Some, option_and_then, refl, inl, inr, ap, sym, ◌∙◌, arith}
+use Rattle.std.proofs.Common.{Option, None, Some, refl, inl, inr, ap, sym, ◌∙◌, arith}
 use Rattle.std.proofs.lemmas.List.{at_drop_more, at_drop_all}
-use Rattle.std.proofs.lemmas.Option.{none-some, same_Some, option_and_then_some}
+use Rattle.std.proofs.lemmas.Option.{none-some, same_Some}
 use Rattle.std.proofs.lemmas.Bool.{cases_lt, lt-leb, le-leb, lt-ltb, le-ltb}
 use Rattle.script_fields.specs.Numbers.{hex_base, digit_of, good_number, longer, extended, and_digits, spelled_number}
 
@@ -31,34 +31,22 @@ module _ (base v i : ℕ) (l : List ℕ) where
   unfolding and_digits
   and_digits_end h = at_drop_all (λ l. and_digits base l (Some v)) l i h
 
-  module _ (more : i < length l) where
-    next :
-        (d : Option ℕ) →
-        d ≡ digit_of (get_or l i 0) →
-        and_digits base (drop i l) (Some v) ≡ and_digits base (drop (i + 1) l) (option_and_then (longer v base) d)
-    unfolding and_digits extended
-    next d h =
-        at_drop_more (λ l. and_digits base l (Some v)) l i 0 more
-        ∙ ap (λ d. and_digits base (drop (i + 1) l) (option_and_then (longer v base) d)) (sym h)
-
-    -- a byte that is no digit
-    pub and_digits_other : None ≡ digit_of (get_or l i 0) → and_digits base (drop i l) (Some v) ≡ None
-    and_digits_other h = next None h ∙ and_digits_none base (drop (i + 1) l)
-
+  module _ (more : i < length l) (d : ℕ) (n : Option ℕ) (is : d ≡ digit_of (get_or l i 0)) (longer_is : n ≡ longer v base d) where
     -- a digit taken
-    pub and_digits_next :
-        (d : ℕ) (n : Option ℕ) →
-        Some d ≡ digit_of (get_or l i 0) →
-        n ≡ longer v base d →
-        and_digits base (drop i l) (Some v) ≡ and_digits base (drop (i + 1) l) n
-    and_digits_next d n h e = next (Some d) h ∙ ap (and_digits base (drop (i + 1) l)) (sym e)
+    pub and_digits_next : and_digits base (drop i l) (Some v) ≡ and_digits base (drop (i + 1) l) n
+    unfolding and_digits extended
+    and_digits_next =
+        at_drop_more (λ l. and_digits base l (Some v)) l i 0 more
+        ∙ ap (λ d. and_digits base (drop (i + 1) l) (longer v base d)) (sym is)
+        ∙ ap (and_digits base (drop (i + 1) l)) (sym longer_is)
 
-    -- that makes no number
-    pub and_digits_past : (d : ℕ) → Some d ≡ digit_of (get_or l i 0) → None ≡ longer v base d → and_digits base (drop i l) (Some v) ≡ None
-    and_digits_past d h e = and_digits_next d None h e ∙ and_digits_none base (drop (i + 1) l)
+  -- that makes no number
+  pub and_digits_past :
+      i < length l → (d : ℕ) → d ≡ digit_of (get_or l i 0) → None ≡ longer v base d → and_digits base (drop i l) (Some v) ≡ None
+  and_digits_past more d h e = and_digits_next more d None h e ∙ and_digits_none base (drop (i + 1) l)
 
 -- what a number read digit by digit cites
-pub ruleset digits_taken = (spelled_number_none, spelled_number_some, and_digits_other, and_digits_past, and_digits_end, and_digits_next)
+pub ruleset digits_taken = (spelled_number_none, spelled_number_some, and_digits_past, and_digits_end, and_digits_next)
 
 -- ## Two hex digits spell a byte
 
@@ -82,9 +70,7 @@ longer_some v d n e =
 extended_small : (m : Option ℕ) (b n most : ℕ) → ((v : ℕ) → m ≡ Some v → v < most) → extended hex_base m b ≡ Some n → n < most * hex_base
 unfolding extended
 extended_small None b n most h e = absurd (none-some n e)
-extended_small (Some v) b n most h e =
-    option_and_then_some (longer v hex_base) (digit_of b) n e
-    (λ d _ l. let below = h v refl in let small = longer_some v d n l in omega arith)
+extended_small (Some v) b n most h e = let below = h v refl in let small = longer_some v (digit_of b) n e in omega arith
 
 -- two of them
 pub spelled_number_byte : (digits : List ℕ) (n : ℕ) → length digits ≡ 2 → Some n ≡ spelled_number hex_base digits → n < 256

@@ -1,6 +1,6 @@
 -- The number that a field spells: at most 32 bits, digits in either case, leading zeros fine.
 use Rattle.std.specs.Prelude.{ℕ, ◌+◌, ◌-◌, ◌*◌, Bool, cond, ◌&&◌, List, [], ◌∷◌, ltb, leb}
-use Rattle.std.specs.Prelude.{Option, None, Some, option_and_then}
+use Rattle.std.specs.Prelude.{Option, None, Some}
 
 -- the base of numbers; "hex addresses and bytes"
 abbrev pub decimal_base : ℕ
@@ -13,11 +13,10 @@ hex_base = 16
 abbrev pub in_range : ℕ → ℕ → ℕ → Bool
 in_range first last b = leb first b && leb b last
 
--- the value of a digit: `0` to `9`, `A` to `F`, `a` to `f`; any other byte is none
-abbrev pub digit_of : ℕ → Option ℕ
+-- the value of a digit: `0` to `9`, `A` to `F`, `a` to `f`; 16, a digit of no base, for any other byte
+abbrev pub digit_of : ℕ → ℕ
 digit_of b =
-    cond (in_range 48 57 b) (Some (b - 48))
-    (cond (in_range 65 70 b) (Some (b - 65 + 10)) (cond (in_range 97 102 b) (Some (b - 97 + 10)) None))
+    cond (in_range 48 57 b) (b - 48) (cond (in_range 65 70 b) (b - 65 + 10) (cond (in_range 97 102 b) (b - 97 + 10) 16))
 
 -- a number, unless it passes 32 bits
 abbrev pub good_number : ℕ → Option ℕ
@@ -30,7 +29,7 @@ longer value base d = cond (leb base d) None (good_number (value * base + d))
 -- the same by the digit's byte, where there is a number so far
 unfoldable pub extended : ℕ → Option ℕ → ℕ → Option ℕ
 extended base None b = None
-extended base (Some v) b = option_and_then (longer v base) (digit_of b)
+extended base (Some v) b = longer v base (digit_of b)
 
 -- a number with all the digits of a list more
 unfoldable pub and_digits : ℕ → List ℕ → Option ℕ → Option ℕ

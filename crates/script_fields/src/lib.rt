@@ -23,6 +23,9 @@ pub const DECIMAL: u32 = 10;
 
 pub const HEX: u32 = 16;
 
+// A byte that is no digit has this value, which no digit has. No `Option` says so: in a base above 16 it is a digit.
+const NO_DIGIT: u32 = 16;
+
 // A line without the line feed that ends it, if one does.
 pub fn without_line_feed(line: &[u8]) -> &[u8]
     ensures within { length result.now ≤ length line.now }
@@ -48,10 +51,10 @@ pub fn field(line: &[u8], k: usize) -> &[u8]
 }
 
 // The value of a digit, in either case.
-fn digit(byte: u8) -> Option<u32>
+fn digit(byte: u8) -> u32
     ensures { result ≡ digit_of byte }
 {
-    char::from(byte).to_digit(HEX)
+    char::from(byte).to_digit(HEX).unwrap_or(NO_DIGIT)
 }
 
 // A number with one digit more, unless that is none of the base or the number passes 32 bits.
@@ -75,7 +78,7 @@ fn whole(field: &[u8], base: u32) -> Option<u32>
     }
     let mut value = 0;
     for byte in field {
-        value = longer(value, base, digit(*byte)?)?;
+        value = longer(value, base, digit(*byte))?;
     }
     Some(value)
 }

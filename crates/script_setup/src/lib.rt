@@ -115,11 +115,14 @@ fn open(screen: &[u8], stores: &[u8], session: Session) -> LineStep
 
 // A line before an accepted `o`: a call prints ?.
 #[tactic(auto, unfolding(script_session::specs::SessionState::after_line))]
-pub fn obey(said: Line, screen: &[u8], stores: &[u8], session: Session) -> LineStep
+pub fn obey(said: Option<Line>, screen: &[u8], stores: &[u8], session: Session) -> LineStep
     requires { session.opened ≡ false }
     ensures { (buffer : List ℕ) → reaction_of result screen.now stores.now
-        ≡ after_line (line_said (Some said) buffer) (session_state session screen.now stores.now) }
+        ≡ after_line (line_said said buffer) (session_state session screen.now stores.now) }
 {
+    let Some(said) = said else {
+        return malformed(session);
+    };
     match said {
         Line::Screen(geometry) => take_screen(session, geometry),
         Line::Pane {
