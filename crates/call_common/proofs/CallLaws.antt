@@ -26,9 +26,8 @@ use Rattle.model.proofs.QuietLaws.{in_part_part}
 use Rattle.model.proofs.PartLaws.{length_part}
 use Rattle.model.proofs.CallLaws as calls
 use Rattle.call_common.specs.declared.Admission.{Admission}
-use Rattle.call_common.specs.declared.Answered.{Answered}
 use Rattle.call_common.specs.Admissions.{Granted}
-use Rattle.call_common.specs.Answers.{state, answer, unchanged, turned_away, with_record, replaced}
+use Rattle.call_common.specs.Answers.{state, CallAnswered, answer, unchanged, turned_away, with_record, replaced}
 
 -- ## Refused
 
@@ -37,10 +36,10 @@ refused_some : (f : Refusal) → refusal_number f ≡ 0 → ⊥
 refused_some f = eqb-false (refusal_number f) 0 (refusal_some f)
 
 -- the answer of a call that was turned away
-turned_away_lem : (s : State) (f : Refusal) {r : Answered} → r ≡ turned_away s.console f → answer r s.screen s.stores ≡ refused s (refusal_number f)
-turned_away_lem s f e = ap (λ (r : Answered). answer r s.screen s.stores) e
+turned_away_lem : (s : State) (f : Refusal) {r : CallAnswered} → r ≡ turned_away s.console f → answer r s.screen s.stores ≡ refused s (refusal_number f)
+turned_away_lem s f e = ap (λ (r : CallAnswered). answer r s.screen s.stores) e
 
-pub set_up_refused : (s : State) {f : Refusal} {r : Answered} → r ≡ turned_away s.console f → refusal_number f ≡ setup_refusal s
+pub set_up_refused : (s : State) {f : Refusal} {r : CallAnswered} → r ≡ turned_away s.console f → refusal_number f ≡ setup_refusal s
     → answer r s.screen s.stores ≡ set_up s
 unfolding set_up
 set_up_refused s {f} e q =
@@ -77,12 +76,12 @@ store_kept : (s : State) (a : Admission) → s.stores ≡ with_store s.stores a.
 store_kept s a = sym (in_part_part s.stores a.row.start (a.row.start + a.row.len - a.row.start))
 
 module _ (s : State) (number : ℕ) (call : Call) where
-  exec_refusal : {f : Refusal} {r : Answered} → refusal_number f ≡ refusal s (on number call) → r ≡ turned_away s.console f
+  exec_refusal : {f : Refusal} {r : CallAnswered} → refusal_number f ≡ refusal s (on number call) → r ≡ turned_away s.console f
       → answer r s.screen s.stores ≡ exec s (on number call)
   exec_refusal {f} q e = turned_away_lem s f e ∙ ap (refused s) q ∙ sym (calls.exec_refused s (on number call) (λ z. refused_some f (q ∙ z)))
 
   -- refused at admission
-  pub exec_refused : {f : Refusal} {r : Answered} → refusal_number f ≡ call_refusal s number → r ≡ turned_away s.console f
+  pub exec_refused : {f : Refusal} {r : CallAnswered} → refusal_number f ≡ call_refusal s number → r ≡ turned_away s.console f
       → answer r s.screen s.stores ≡ exec s (on number call)
   unfolding refusal
   exec_refused {f} h e = exec_refusal (h ∙ sym (cond_false _ _ (ne_eqb (call_refusal s number) 0 (λ z. refused_some f (h ∙ z))))) e
@@ -95,13 +94,13 @@ module _ (s : State) (number : ℕ) (call : Call) where
         ∙ sym (cond_true _ _ (eq-eqb (call_refusal s number) 0 g.clear))
 
     -- refused by the call's own check
-    pub exec_refused_own : {f : Refusal} {r : Answered} → refusal_number f ≡ own_refusal a.row a.pane call → r ≡ turned_away s.console f
+    pub exec_refused_own : {f : Refusal} {r : CallAnswered} → refusal_number f ≡ own_refusal a.row a.pane call → r ≡ turned_away s.console f
         → answer r s.screen s.stores ≡ exec s (on number call)
     exec_refused_own own = exec_refusal (own_refusal_lem own)
 
     module _ (own : 0 ≡ own_refusal a.row a.pane call) where
       -- accepted, by what the call makes of the pane
-      pub exec_accepted : {o : Outcome} → on_admitted s a call ≡ o → (b : Answered) {screen stores : List ℕ}
+      pub exec_accepted : {o : Outcome} → on_admitted s a call ≡ o → (b : CallAnswered) {screen stores : List ℕ}
           → b.console ≡ with_record s.console number o.pane → response b.reply ≡ o.reply
           → screen ≡ o.screen → stores ≡ with_store s.stores a.row o.store
           → answer b screen stores ≡ exec s (on number call)
@@ -115,27 +114,27 @@ module _ (s : State) (number : ℕ) (call : Call) where
 
       -- another record, all else kept
       pub exec_record : {p : Pane} (t : Reply) → on_admitted s a call ≡ outcome (response (Ok t)) p s.screen (store_part s.stores a.row)
-          → {b : Answered} {q : Pane} → b ≡ replaced s.console number q t → q ≡ p
+          → {b : CallAnswered} {q : Pane} → b ≡ replaced s.console number q (Ok t) → q ≡ p
           → answer b s.screen s.stores ≡ exec s (on number call)
       exec_record t e {b} i j =
-          exec_accepted e b (ap (λ (b : Answered). b.console) i ∙ ap (with_record s.console number) j)
-          (ap (λ (b : Answered). response b.reply) i) refl (store_kept s a)
+          exec_accepted e b (ap (λ (b : CallAnswered). b.console) i ∙ ap (with_record s.console number) j)
+          (ap (λ (b : CallAnswered). response b.reply) i) refl (store_kept s a)
 
       -- another store, all else kept
       pub exec_store : {store : List ℕ} (t : Reply) → on_admitted s a call ≡ outcome (response (Ok t)) a.pane s.screen store
           → {new : List ℕ} → new ≡ store
-          → answer (unchanged s.console t) s.screen (with_store s.stores a.row new) ≡ exec s (on number call)
+          → answer (unchanged s.console (Ok t)) s.screen (with_store s.stores a.row new) ≡ exec s (on number call)
       exec_store t e q =
-          exec_accepted e (unchanged s.console t) (record_kept s number g.pane) refl refl (ap (with_store s.stores a.row) q)
+          exec_accepted e (unchanged s.console (Ok t)) (record_kept s number g.pane) refl refl (ap (with_store s.stores a.row) q)
 
       -- values, all kept
       pub exec_kept : {t : Response} → on_admitted s a call ≡ outcome t a.pane s.screen (store_part s.stores a.row)
           → (b : Reply) → response (Ok b) ≡ t
-          → answer (unchanged s.console b) s.screen s.stores ≡ exec s (on number call)
-      exec_kept e b q = exec_accepted e (unchanged s.console b) (record_kept s number g.pane) q refl (store_kept s a)
+          → answer (unchanged s.console (Ok b)) s.screen s.stores ≡ exec s (on number call)
+      exec_kept e b q = exec_accepted e (unchanged s.console (Ok b)) (record_kept s number g.pane) q refl (store_kept s a)
 
       -- one number, all kept
       pub exec_value : {v : ℕ} → on_admitted s a call ≡ outcome (accepted_with (natural v ∷ [])) a.pane s.screen (store_part s.stores a.row)
           → {n : ℕ} → n ≡ v
-          → answer (unchanged s.console (reply.Value n)) s.screen s.stores ≡ exec s (on number call)
+          → answer (unchanged s.console (Ok (reply.Value n))) s.screen s.stores ≡ exec s (on number call)
       exec_value e {n} q = exec_kept e (reply.Value n) (ap (λ (n : ℕ). accepted_with (natural n ∷ [])) q)

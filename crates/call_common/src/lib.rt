@@ -2,7 +2,7 @@
 // begins, a pane record replaced, and a fresh one.
 #![tactic(auto)]
 
-ghost use Rattle.std.specs.Prelude.{◌≡◌, ◌<◌};
+ghost use Rattle.std.specs.Prelude.{◌≡◌, ◌<◌, Ok};
 ghost use Rattle.model.specs.Numbers.{refused_by};
 ghost use Rattle.model.specs.Record.{fresh};
 ghost use Rattle.model.specs.Calls.{start_refusal};
@@ -55,15 +55,16 @@ pub fn check_start(row: Row, address: u32) -> Result<(), Refusal>
     Ok(())
 }
 
-// What every call answers: the console record after it, and its reply or why it was refused.
+// What a call answers: the console record after it, and its reply, which is one of the paper's or why it refused, or
+// whatever else a caller has for one.
 #[derive(Clone, Copy)]
-pub struct Answered {
+pub struct Answered<T = Result<Reply, Refusal>> {
     pub console: Console,
-    pub reply: Result<Reply, Refusal>,
+    pub reply: T,
 }
 
-// A refused call: the record as it came.
-pub fn refused(console: Console, refusal: Refusal) -> Answered
+// A refused call: the record as it came, and the refusal, of the paper or a number of any kind.
+pub fn refused<R>(console: Console, refusal: R) -> Answered<Result<Reply, R>>
     ensures { result ≡ turned_away console refusal }
 {
     Answered {
@@ -74,14 +75,14 @@ pub fn refused(console: Console, refusal: Refusal) -> Answered
 
 // An accepted call that keeps the record.
 pub fn replied(console: Console, reply: Reply) -> Answered
-    ensures { result ≡ unchanged console reply }
+    ensures { result ≡ unchanged console (Ok reply) }
 {
     let reply = Ok(reply);
     Answered { console, reply }
 }
 
-// The record with that of the pane with a number replaced, all else kept, and a reply.
-pub fn with_record(console: Console, number: u32, pane: Pane, reply: Reply) -> Answered
+// The record with that of the pane with a number replaced, all else kept, and a reply, a refusal too.
+pub fn with_record<T>(console: Console, number: u32, pane: Pane, reply: T) -> Answered<T>
     requires { number < 8 }
     ensures { result ≡ replaced console number pane reply }
 {
@@ -90,7 +91,7 @@ pub fn with_record(console: Console, number: u32, pane: Pane, reply: Reply) -> A
     next.panes[k] = pane;
     Answered {
         console: next,
-        reply: Ok(reply),
+        reply,
     }
 }
 
@@ -144,3 +145,6 @@ pub fn fresh() -> Pane
         },
     }
 }
+
+#[cfg(test)]
+mod tests;

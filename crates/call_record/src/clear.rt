@@ -15,5 +15,5 @@ pub fn clear(screen: &[u8], stores: &[u8], console: Console, number: u32) -> Ans
     if let Err(refusal) = admit(screen.len(), stores.len(), console, number) {
         return refused(console, refusal);
     }
-    with_record(console, number, fresh(), Reply::Done)
+    with_record(console, number, fresh(), Ok(Reply::Done))
 }

@@ -39,5 +39,5 @@ pub fn start(screen: &[u8], stores: &[u8], console: Console, number: u32, addres
         return refused(console, refusal);
     }
     let pane = started(admission.pane, address);
-    with_record(console, number, pane, Reply::Done)
+    with_record(console, number, pane, Ok(Reply::Done))
 }

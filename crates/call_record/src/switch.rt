@@ -48,5 +48,5 @@ pub fn switch(screen: &[u8], stores: &[u8], console: Console, number: u32, value
         return refused(console, refusal);
     }
     let pane = switched(admission.pane, value);
-    with_record(console, number, pane, Reply::Done)
+    with_record(console, number, pane, Ok(Reply::Done))
 }

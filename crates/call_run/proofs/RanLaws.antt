@@ -4,6 +4,7 @@ use mathlib.Core.Path.{◌≡◌, refl, sym, ap}
 use mathlib.Core.List.{List}
 use Prim.Native.Nat.{ℕ}
 use lib.ListN.{length}
+use Rattle.std.specs.Prelude.{Ok}
 use Rattle.model.specs.declared.Console.{Console}
 use Rattle.model.specs.declared.Row.{Row}
 use Rattle.model.specs.Runs.{runs}
@@ -14,9 +15,8 @@ use Rattle.processor.specs.declared.Finished.{Finished}
 use Rattle.processor.specs.Obeying.{finish_of}
 use Rattle.refusals.proofs.GoodLaws.{good_released}
 use Rattle.call_common.specs.declared.Admission.{Admission}
-use Rattle.call_common.specs.declared.Answered.{Answered}
 use Rattle.call_common.specs.Admissions.{Granted}
-use Rattle.call_common.specs.Answers.{answer, replaced}
+use Rattle.call_common.specs.Answers.{CallAnswered, answer, replaced}
 use Rattle.call_common.proofs.CallLaws.{store_part, with_store, length_store_part, exec_accepted}
 use Rattle.call_run.specs.Running.{ran_reply}
 
@@ -31,9 +31,9 @@ pub exec_ran : (s : State) (number budget : ℕ) {a : Admission} → Granted s.c
     → ((row : Row) (budget : ℕ) → 0 ≡ own_refusal row a.pane (run budget))
     → (e : Finished) (screen store : List ℕ)
     → finish_of e screen store ≡ runs s.console.geometry a.row budget (released a.pane) s.screen (store_part s.stores a.row)
-    → {b : Answered} → b ≡ replaced s.console number e.pane (ran_reply e)
+    → {b : CallAnswered} → b ≡ replaced s.console number e.pane (Ok (ran_reply e))
     → answer b screen (with_store s.stores a.row store) ≡ exec s (on number (run budget))
 unfolding on_pane
 exec_ran s number budget {a} g own e screen store f {b} k =
     exec_accepted s number (run budget) g (own a.row budget) (ap ran (sym f)) b
-    (ap (λ (b : Answered). b.console) k) (ap (λ (b : Answered). response b.reply) k) refl refl
+    (ap (λ (b : CallAnswered). b.console) k) (ap (λ (b : CallAnswered). response b.reply) k) refl refl

@@ -78,5 +78,5 @@ pub fn run(
     let end = start + row.len as usize;
     let begun = released(pane);
     let s = processor::run(screen, &mut stores[start..end], f, begun, budget);
-    with_record(console, number, s.pane, ran(s))
+    with_record(console, number, s.pane, Ok(ran(s)))
 }

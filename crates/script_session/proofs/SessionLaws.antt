@@ -12,8 +12,7 @@ use Rattle.io.specs.Counts.{IsPrefixLen}
 use Rattle.model.specs.Replies.{Response, response}
 use Rattle.model.specs.Calls.{State, Answer}
 use Rattle.model.proofs.Decisions.{split}
-use Rattle.call_common.specs.Answers.{state, answer}
-use Rattle.call_common.specs.declared.Answered.{Answered}
+use Rattle.call_common.specs.Answers.{CallAnswered, state, answer}
 use Rattle.script_session.specs.declared.Session.{Session}
 use Rattle.script_session.specs.declared.LineAnswer.{LineAnswer}
 use Rattle.script_session.specs.declared.LineAnswer.TheVariants as answers
@@ -66,7 +65,7 @@ module _ (after : Response → Session) (letter : ℕ) (call : State → Answer)
       whole_buffers d (call_made (after a.reply) letter a)
 
   pub call_made_lem :
-      {k m : ℕ} {r : LineStep} {b : Answered} {rows bytes : List ℕ} →
+      {k m : ℕ} {r : LineStep} {b : CallAnswered} {rows bytes : List ℕ} →
       k ≡ min s.screen (length screen) →
       m ≡ min s.stores (length stores) →
       r ≡ line_step (with_console (after (response b.reply)) b.console) (answers.Replied letter b.reply) →

@@ -13,7 +13,8 @@ returns-in-Err c = exec_refused _ _ _ c.in-Err.ensures c.refused.ensures
 pub returns-in-Err-check_start : goal.returns-in-Err-check_start
 unfolding own_refusal
 returns-in-Err-check_start c =
-    exec_refused_own _ _ (judge _) c.in-Ok.ensures c.in-Err-check_start.ensures c.refused-in-Err-check_start.ensures
+    rw c.refused-in-Err-check_start.ensures
+    (exec_refused_own _ _ (judge _) c.in-Ok.ensures c.in-Err-check_start.ensures refl)
 
 pub judge-verdict-requires : goal.judge-verdict-requires
 unfolding part
