@@ -48,6 +48,11 @@ module _ (t : Target) (m : Transfer) where
   unfolding moved_all moved_row listed
   moved_none e c = steps_idle all_steps m.patch.high c (λ k l z. rw e (painted_all_none t z))
 
+  -- no rows
+  pub moved_no_row : m.patch.high ≡ 0 → (c : Canvas) → moved_all t m c ≡ c
+  unfolding moved_all
+  moved_no_row e c = rw e (steps_none _ c)
+
 -- ## The invariant
 
 -- k numbered steps are made on the canvas c₀, each with at most w more visible; c is the canvas now

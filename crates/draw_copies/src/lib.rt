@@ -179,24 +179,36 @@ fn move_row(
     seen
 }
 
-// All rows of a transfer, in their order: how many of its pixels are visible. Not inlined: among the numbers of
-// `copy_block` a row of 31 pixels takes some 7 percent longer.
+// The rows of a transfer that has columns, in their order: how many of its pixels are visible. Not inlined: among the
+// numbers of `copy_block` a row of 31 pixels takes some 7 percent longer.
 #[inline(never)]
-fn move_all(screen: &mut [u8], store: &mut [u8], t: Target, m: Transfer) -> usize
-    requires { Movable t m (length screen.old) (length store.old) }
+fn move_rows(screen: &mut [u8], store: &mut [u8], t: Target, m: Transfer) -> usize
+    requires { Movable t m (length screen.old) (length store.old) × (0 < m.patch.wide) }
     ensures { canvas screen.new store.new result
         ≡ moved_all t m (canvas screen.old store.old 0) }
 {
     let p = m.patch;
-    if p.wide == 0 {
-        return 0;
-    }
     let mut seen = 0;
     for k in 0..p.high {
         let j = reversed_if(m.up, p.high, k);
         seen = move_row(screen, store, t, m, j, seen);
     }
     seen
+}
+
+// All rows of a transfer, which may have no column or row in the clip: how many of its pixels are visible. Apart from
+// the rows, so that a copy all outside the clip ends before their numbers are worked out: else it takes a third longer.
+#[tactic(auto, using(crate::proofs::LoopLaws::moved_none, crate::proofs::LoopLaws::moved_no_row))]
+fn move_all(screen: &mut [u8], store: &mut [u8], t: Target, m: Transfer) -> usize
+    requires { Movable t m (length screen.old) (length store.old) }
+    ensures { canvas screen.new store.new result
+        ≡ moved_all t m (canvas screen.old store.old 0) }
+{
+    let p = m.patch;
+    if p.wide == 0 || p.high == 0 {
+        return 0;
+    }
+    move_rows(screen, store, t, m)
 }
 
 // The position after a copy: on by its dx and the spacing, wrapped at 16 bits.
@@ -209,7 +221,9 @@ fn copied_to(from: Point, dx: u16, spacing: u16) -> Point
 }
 
 // A block of a source copied to a position of the active bitmap. In place; where the copy goes down, its rows are taken
-// from the bottom up, so that within one bitmap each is read before it is drawn on.
+// from the bottom up, so that within one bitmap each is read before it is drawn on. Inlined: else a copy all outside
+// the clip takes some 13 percent longer.
+#[inline(always)]
 fn copy_block(
     screen: &mut [u8],
     store: &mut [u8],

@@ -1,7 +1,7 @@
--- `draw_copies::move_all` meets its contract: after k turns the first k rows are moved, in their order.
+-- `draw_copies::move_rows` meets its contract: after k turns the first k rows are moved, in their order.
 use Rattle.canvas.specs.Canvas.{canvas}
 use Rattle.draw_copies.proofs.LoopLaws.{Stepped, all_steps}
-use Rattle.draw_copies.proofs.move_all.Given as goal
+use Rattle.draw_copies.proofs.move_rows.Given as goal
 
 abbrev pub invariant-loop-k : goal.invariant-loop-k
 invariant-loop-k l =
