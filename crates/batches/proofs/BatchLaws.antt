@@ -32,10 +32,10 @@ use Rattle.perform.specs.Performing.{Sound, finish}
 use Rattle.batches.specs.declared.heads.Head.{Head}
 use Rattle.batches.specs.declared.heads.Head.TheVariants as head
 use Rattle.batches.specs.declared.heads.Move.{Move}
-use Rattle.batches.specs.Heads.{HeadAt, Standing, moved_by}
+use Rattle.batches.specs.Heads.{HeadAt, Standing, moved_by, only_moved_by}
 use Rattle.batches.specs.Batches.{Drawable, onward, reached}
 use Rattle.batches.proofs.OnwardLaws.{onward_none, onward_step}
-use Rattle.batches.proofs.StepLaws.{dots_by, head_stepped, reached_by}
+use Rattle.batches.proofs.StepLaws.{dots_by, head_stepped}
 
 -- a pane whose list has come further is as sound, and as drawable
 pub reached_sound : {g : Geometry} {r : Row} {p : Pane} {m n m' n' : ℕ} (pointer : ℕ) (position : Point) → Sound g r p m n → m' ≡ m → n' ≡ n
@@ -73,6 +73,14 @@ pub line_painted : (t : Target) (from : Point) (dx dy : ℕ) {s : Segment} {trac
     → Painted t (trace_dots t.pen trace) c c' → Painted t (dots_by t.pen from (head.Line dx dy)) c c'
 line_painted t from dx dy c c' e o painted =
     subst (λ (z : Segment). Painted t (dots_of t.pen from z) c c') e (trace_painted t from _ c o painted)
+
+-- nothing is drawn by other commands than LINE and CIRCLE
+pub none_painted : (t : Target) (from : Point) (h : Head) (c : Canvas) → ((dx dy : ℕ) → h ≡ head.Line dx dy → ⊥) → ((radius : ℕ) → h ≡ head.Circle radius → ⊥)
+    → Painted t (dots_by t.pen from h) c c
+unfolding painted_all
+none_painted t from (head.Line dx dy) c line circle = absurd (line dx dy refl)
+none_painted t from (head.Circle radius) c line circle = absurd (circle radius refl)
+none_painted t from h c line circle = refl
 
 -- a command draws at most so many dots
 dots_few : (pen : Pen) (from : Point) (h : Head) → length (dots_by pen from h) ≤ most_pixels
@@ -137,26 +145,26 @@ module _ {t : Target} {at : ℕ} {from : Point} {budget : ℕ} {screen₀ store�
       one_less = omega arith
 
   -- .. by its head
-  pub batching_next : (h : Head) (m : Move) (hits paint' : ℕ) (screen' store' : List ℕ) → Standing store pointer h → m ≡ reached_by pointer position h
+  pub batching_next : (h : Head) (m : Move) (hits paint' : ℕ) (screen' store' : List ℕ) → Standing store pointer h → m ≡ moved_by pointer position h
       → length screen' ≡ length screen → length store' ≡ length store → paint' ≡ paint + hits
       → Painted t (dots_by t.pen position h) (canvas screen store 0) (canvas screen' store' hits)
       → Batching t at from budget screen₀ store₀ screen' store' m.pointer m.position (count + 1) paint'
   unfolding Stepped target_of
   batching_next h m hits paint' screen' store' stands e wide tall sum painted =
-      rw e (batching_step hits paint' (reached_by pointer position h).pointer (reached_by pointer position h).position screen' store' wide tall
+      rw e (batching_step hits paint' (moved_by pointer position h).pointer (moved_by pointer position h).position screen' store' wide tall
       (head_few t position h screen store screen' store' hits painted) sum
       (λ g r p d aim. head_stepped g r (reached p pointer position) screen store d h hits screen' store' stands
       (subst (λ (z : Target). Painted z (dots_by z.pen position h) (canvas screen store 0) (canvas screen' store' hits)) aim painted)))
 
   -- .. that only moves
-  moved_next : (h : Head) (m : Move) → Standing store pointer h → dots_by t.pen position h ≡ [] → Some m ≡ Some (reached_by pointer position h)
+  moved_next : (h : Head) (m : Move) → Standing store pointer h → dots_by t.pen position h ≡ [] → Some m ≡ Some (moved_by pointer position h)
       → Batching t at from budget screen₀ store₀ screen store m.pointer m.position (count + 1) paint
   unfolding painted_all
   moved_next h m stands still e =
-      batching_next h m 0 paint screen store stands (same_Some m (reached_by pointer position h) e) refl refl (omega arith)
+      batching_next h m 0 paint screen store stands (same_Some m (moved_by pointer position h) e) refl refl (omega arith)
       (rw still refl)
 
-  pub batching_moved : (told : Option Head) (m : Move) → HeadAt store pointer told → Some m ≡ moved_by pointer position told
+  pub batching_moved : (told : Option Head) (m : Move) → HeadAt store pointer told → Some m ≡ only_moved_by pointer position told
       → Batching t at from budget screen₀ store₀ screen store m.pointer m.position (count + 1) paint
   batching_moved None m stands e = absurd (none-some m (sym e))
   batching_moved (Some (head.Line dx dy)) m stands e = absurd (none-some m (sym e))

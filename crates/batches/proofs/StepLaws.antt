@@ -41,8 +41,7 @@ use Rattle.perform.proofs.DrawingLaws.{line_carries, circle_carries}
 use Rattle.perform.proofs.PerformLaws.{performs_drawing}
 use Rattle.batches.specs.declared.heads.Head.{Head}
 use Rattle.batches.specs.declared.heads.Head.TheVariants as head
-use Rattle.batches.specs.declared.heads.Move.{Move}
-use Rattle.batches.specs.Heads.{Standing, command_in, moved_to, words_in}
+use Rattle.batches.specs.Heads.{Standing, command_in, moved_by, words_in}
 use Rattle.batches.specs.Batches.{Drawable, reached}
 
 -- ## Of any command
@@ -95,15 +94,6 @@ module _ (g : Geometry) (r : Row) (p : Pane) (screen store : List ℕ) (drawable
 
 -- ## The commands of a batch, by their heads
 
--- where a head's command leaves the pointer and the position: what `moved_by` says of those that only move, and a line and a circle too
-abbrev pub reached_by : ℕ → Point → Head → Move
-reached_by pointer from (head.Line dx dy) = moved_to (pointer + 6) (moved from (coord dx) (coord dy))
-reached_by pointer from (head.Circle radius) = moved_to (pointer + 4) from
-reached_by pointer from (head.AbsMov x y) = moved_to (pointer + 6) (record { x = x; y = y })
-reached_by pointer from (head.RelMov dx dy) = moved_to (pointer + 6) (moved from (coord dx) (coord dy))
-reached_by pointer from (head.Link address) = moved_to address from
-reached_by pointer from head.Nop = moved_to (pointer + 2) from
-
 -- the dots that a head's command draws from a position
 abbrev pub dots_by : Pen → Point → Head → List Dot
 dots_by pen from (head.Line dx dy) = line_dots pen (place from) (coord dx) (coord dy)
@@ -116,7 +106,7 @@ module _ (g : Geometry) (r : Row) (p : Pane) (screen store : List ℕ) (drawable
 
   -- where a head's command leaves the record
   abbrev left_by : Head → Pane
-  left_by h = reached p (reached_by at p.position h).pointer (reached_by at p.position h).position
+  left_by h = reached p (moved_by at p.position h).pointer (moved_by at p.position h).position
 
   -- what the decoder finds at the pointer, and the address after it
   found : (h : Head) (next : ℕ) → Standing store at h → at + 2 + 2 * words_in h ≡ next → decode r.len store at ≡ Do (command_in h) next

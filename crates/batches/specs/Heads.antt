@@ -64,13 +64,22 @@ HeadAt s at told = IfSome told (Standing s at)
 abbrev pub moved_to : ℕ → Point → Move
 moved_to pointer position = record { pointer = pointer; position = position }
 
--- what ABS_MOV, REL_MOV, LINK and NOP leave, by the head of a command; no other only moves. "LINK sets the pointer", of
--- the others "the pointer goes on"; "The position wraps at 16 bits". That model's effect is this is `head_stepped`
-abbrev pub moved_by : ℕ → Point → Option Head → Option Move
-moved_by pointer from None = None
-moved_by pointer from (Some (head.Line dx dy)) = None
-moved_by pointer from (Some (head.Circle radius)) = None
-moved_by pointer from (Some (head.AbsMov x y)) = Some (moved_to (pointer + 6) (record { x = x; y = y }))
-moved_by pointer from (Some (head.RelMov dx dy)) = Some (moved_to (pointer + 6) (moved from (coord dx) (coord dy)))
-moved_by pointer from (Some (head.Link address)) = Some (moved_to address from)
-moved_by pointer from (Some head.Nop) = Some (moved_to (pointer + 2) from)
+-- where a command leaves the pointer and the position, by its head. "LINK sets the pointer", of the others "the pointer
+-- goes on"; "The position wraps at 16 bits". That model's effect is this is `head_stepped`
+abbrev pub moved_by : ℕ → Point → Head → Move
+moved_by pointer from (head.Line dx dy) = moved_to (pointer + 6) (moved from (coord dx) (coord dy))
+moved_by pointer from (head.Circle radius) = moved_to (pointer + 4) from
+moved_by pointer from (head.AbsMov x y) = moved_to (pointer + 6) (record { x = x; y = y })
+moved_by pointer from (head.RelMov dx dy) = moved_to (pointer + 6) (moved from (coord dx) (coord dy))
+moved_by pointer from (head.Link address) = moved_to address from
+moved_by pointer from head.Nop = moved_to (pointer + 2) from
+
+-- the same of ABS_MOV, REL_MOV, LINK and NOP alone, by the head of a command; no other only moves
+abbrev pub only_moved_by : ℕ → Point → Option Head → Option Move
+only_moved_by pointer from None = None
+only_moved_by pointer from (Some (head.Line dx dy)) = None
+only_moved_by pointer from (Some (head.Circle radius)) = None
+only_moved_by pointer from (Some (head.AbsMov x y)) = Some (moved_to (pointer + 6) (record { x = x; y = y }))
+only_moved_by pointer from (Some (head.RelMov dx dy)) = Some (moved_to (pointer + 6) (moved from (coord dx) (coord dy)))
+only_moved_by pointer from (Some (head.Link address)) = Some (moved_to address from)
+only_moved_by pointer from (Some head.Nop) = Some (moved_to (pointer + 2) from)

@@ -1,6 +1,6 @@
 // The commands that a batch has, by their first words, and where each leaves the pointer and the position.
 ghost use Rattle.std.specs.Prelude.{◌≡◌, ◌+◌, ◌≤◌, ◌<◌, ◌^◌, length, IfSome};
-ghost use Rattle.batches.specs.Heads.{HeadAt, OpcodeFor, moved_to, moved_by};
+ghost use Rattle.batches.specs.Heads.{HeadAt, OpcodeFor, moved_to, moved_by, only_moved_by};
 
 use decoder::parameter;
 use draw_lines::is_span;
@@ -73,9 +73,9 @@ fn moved_to(pointer: u32, position: Point) -> Move
 }
 
 // What ABS_MOV, REL_MOV, LINK and NOP leave, by the head of a command; no other only moves.
-pub fn moved_by(pointer: u32, from: Point, head: Option<Head>) -> Option<Move>
+pub fn only_moved_by(pointer: u32, from: Point, head: Option<Head>) -> Option<Move>
     requires { IfSome head (λ _. pointer + 6 < 2 ^ 32) }
-    ensures { result ≡ moved_by pointer from head }
+    ensures { result ≡ only_moved_by pointer from head }
 {
     match head? {
         Head::Line { .. } | Head::Circle { .. } => None,
@@ -83,5 +83,20 @@ pub fn moved_by(pointer: u32, from: Point, head: Option<Head>) -> Option<Move>
         Head::RelMov { dx, dy } => Some(moved_to(pointer + 6, coordinates::move_by(from, dx, dy))),
         Head::Link { address } => Some(moved_to(address, from)),
         Head::Nop => Some(moved_to(pointer + 2, from)),
+    }
+}
+
+// Where a command leaves the pointer and the position, by its head.
+pub fn moved_by(pointer: u32, from: Point, head: Head) -> Move
+    requires { pointer + 6 < 2 ^ 32 }
+    ensures { result ≡ moved_by pointer from head }
+{
+    if let Some(next) = only_moved_by(pointer, from, Some(head)) {
+        return next;
+    }
+    match head {
+        Head::Line { dx, dy } => moved_to(pointer + 6, coordinates::move_by(from, dx, dy)),
+        // CIRCLE: all but this and LINE only move
+        _ => moved_to(pointer + 4, from),
     }
 }

@@ -16,7 +16,7 @@ use bitmaps::no_bitmap;
 use canvas::Target;
 use draw_circles::draw_circle;
 use draw_lines::{is_span, trace_of, whole_line};
-use heads::{Head, head_at, moved_by};
+use heads::{Head, head_at, only_moved_by};
 use model::{Command, Frame, Pane, Point};
 use traces::draw_trace;
 
@@ -63,7 +63,7 @@ fn batch_on(
                 pointer += 4;
             }
             _ => {
-                let Some(next) = moved_by(pointer, position, head) else {
+                let Some(next) = only_moved_by(pointer, position, head) else {
                     return Batch {
                         pointer,
                         position,
@@ -145,3 +145,6 @@ pub fn batch_from(
         paint: 0,
     }
 }
+
+#[cfg(test)]
+mod tests;

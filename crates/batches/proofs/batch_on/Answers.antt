@@ -39,5 +39,5 @@ loop-count-preserved c = elim c.match-head.branch [
       (rw w.magnitude-r.ensures.0 at w.draw_circle.ensures))
   | in_default+in-Some w ↦
       rw (w.screen-is, w.store-is, w.pointer-is, w.position-is, w.paint-is)
-      (batching_moved c.loop-count.invariant c.loop-count-test.true _ _ c.head_at-head.ensures (sym w.in-Some.is ∙ w.moved_by.ensures))
+      (batching_moved c.loop-count.invariant c.loop-count-test.true _ _ c.head_at-head.ensures (sym w.in-Some.is ∙ w.only_moved_by.ensures))
 ]
